@@ -1,7 +1,7 @@
 # made by tools/words.py from share/words.json
 complete -c mscjudge -f -n __fish_use_subcommand -a judge -d 'reads the files DOC and LOG, and judges the log by the chart CHART of the document'
 complete -c mscjudge -f -n __fish_use_subcommand -a check -d 'reads the file DOC, and says how many charts it has, or which rule it breaks first'
-complete -c mscjudge -f -n __fish_use_subcommand -a list -d 'lists the charts of the document, each with its kind and the number of its instances, or the instances of the chart CHART in the order of their first declaration'
+complete -c mscjudge -f -n __fish_use_subcommand -a list -d 'lists the charts of the document, each with its kind and the number of its instances, or the instances of the chart CHART in the order of the text'
 complete -c mscjudge -f -n __fish_use_subcommand -a print -d 'prints the document in its canonical form; it looks at no rule of charts'
 complete -c mscjudge -f -n __fish_use_subcommand -a sample -d 'judges a log of TURNS requests and answers, drawn from SEED, by a chart that the program has; it reads no file'
 complete -c mscjudge -n '__fish_seen_subcommand_from judge' -l budget -x -d 'how much may be left of the chart at once, 1 to 4000000; 1000000 without the option'

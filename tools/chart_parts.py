@@ -3,10 +3,16 @@
 A level is a body or an operand, and has events, coregions, conditions, stops, inline expressions and references. What a run is follows from
 the meaning of these forms alone, and of the charts that refine instances; how a chart is written (chart_texts.py) says no more than in which
 order items that share no instance of their chart are read.
+
+A high-level chart has a graph. Its runs are those of walks through the graph from a start to an end: what the nodes of a walk do, one after
+another as far as they share instances. Frames are walks side by side; conditions and connectors do nothing. A chart that is judged itself
+has begun also where a walk stops anywhere; one that others name is done to its end.
 """
 import copy
 import json
 
+# the steps that a walk takes at most before it seeks an end
+STEPS = 7
 KINDS = {"out": "out", "in": "in", "action": "action", "set": "start", "reset": "stop", "timeout": "timeout", "lost": "lost", "found": "found", "create": "create"}
 
 
@@ -99,6 +105,28 @@ class Tied:
         self.at, self.join = at, join
 
 
+class Line:
+    """A line of a graph: its label, what its node is (`end`, `connect`, `condition`, `refer` or `frames`), and the lines that may come next."""
+
+    def __init__(self, label, form, expression=None, frames=()):
+        self.label, self.form, self.expression, self.frames, self.next = label, form, expression, list(frames), []
+
+
+class Graph:
+    """The graph of a high-level chart or of a frame: its lines, and those with which a walk may begin."""
+
+    def __init__(self, starts, lines):
+        self.starts, self.lines = starts, lines
+
+    def charts(self):
+        """The charts that its nodes name, those in frames too."""
+        for line in self.lines:
+            if line.expression:
+                yield from line.expression.charts()
+            for frame in line.frames:
+                yield from frame.charts()
+
+
 class Level:
     def __init__(self, cover, items):
         self.cover, self.items = cover, items
@@ -177,7 +205,7 @@ def in_loop(inner):
 
 def gates_of_expression(expression):
     if expression.form == "chart":
-        return gates_of_level(expression.chart.level)
+        return {} if expression.chart.graph else gates_of_level(expression.chart.level)
     inner = gathered([gates_of_expression(part) for part in expression.parts], expression.form == "alt")
     return in_loop(inner) if expression.form == "loop" else inner
 
@@ -258,7 +286,8 @@ def unfolded(rng, level):
         if ends:
             break
     pairs += tied(events)
-    return events, [(first, second) for first, second in pairs if first in events and second in events]
+    held = set(events)
+    return events, [(first, second) for first, second in pairs if first in held and second in held]
 
 
 def tied(events):
@@ -309,6 +338,11 @@ def own_events(events, pairs):
     return [own[id(event)] for event in events], [(own[id(first)], own[id(second)]) for first, second in pairs]
 
 
+def beside(parts):
+    """The parts without an order between them."""
+    return [event for events, _ in parts for event in events], [pair for _, pairs in parts for pair in pairs]
+
+
 def in_sequence(parts):
     """The parts one after another, as far as they share instances."""
     events, pairs = [], []
@@ -337,9 +371,7 @@ def unfolded_expression(rng, expression):
     if form == "opt" and rng.random() < 0.3:
         return [], []
     each = [unfolded_expression(rng, part) for part in parts]
-    if form == "par":
-        return [event for events, _ in each for event in events], [pair for _, pairs in each for pair in pairs]
-    return in_sequence(each)
+    return beside(each) if form == "par" else in_sequence(each)
 
 
 def turns_of(rng, item):
@@ -359,6 +391,8 @@ def stand_ins(chart):
 
 def unfolded_chart(rng, chart):
     """The events of one of the chart's unfoldings, and its pairs: in place of decomposed instances, what their charts do beside the rest."""
+    if chart.graph:
+        return unfolded_walk(rng, chart.graph, True)
     body, pairs = unfolded(rng, chart.level)
     if not chart.refined:
         return body, pairs
@@ -387,15 +421,84 @@ def refined_messages(chart, own):
     return pairs
 
 
-def run_of(rng, chart):
-    """A run of the chart; where the order has a cycle, some events of it."""
-    waiting, pairs = unfolded_chart(rng, chart)
-    run = []
-    while waiting:
-        due = [event for event in waiting if not any(second is event and first in waiting for first, second in pairs)]
+# --- walks --------------------------------------------------------------------------------------
+
+def steps_to_end(graph):
+    """The lines from which a walk can come to an end, each with how few steps it takes."""
+    steps, count, due = {}, 0, [line for line in graph.lines if line.form == "end"]
+    while due:
+        steps.update((line, count) for line in due)
+        count += 1
+        due = [line for line in graph.lines if line not in steps and any(after in steps for after in line.next)]
+    return steps
+
+
+def endless_lines(graph):
+    """The lines that a walk may come to, and from which it can't come to an end."""
+    steps, reached, due = steps_to_end(graph), [], list(graph.starts)
+    while due:
+        line = due.pop()
+        if line not in reached:
+            reached.append(line)
+            due += line.next
+    return [line for line in reached if line not in steps]
+
+
+def walk_of(rng, graph, finished):
+    """The lines of a walk: one that comes to an end, if it is to be finished and there is one, or else one that stops anywhere."""
+    walk, due, steps, most = [], graph.starts, steps_to_end(graph), rng.randint(0, STEPS)
+    ends = finished and any(line in steps for line in due)
+    while due and (ends or len(walk) < most):
+        if ends:
+            due = [line for line in due if line in steps]
+            due = due if len(walk) < most else [min(due, key=steps.get)]
+        walk.append(rng.choice(due))
+        due = walk[-1].next
+    return walk
+
+
+def unfolded_walk(rng, graph, finished):
+    """The events of one of the unfoldings of a graph, and its pairs: of a finished walk, or of one that is under way."""
+    return in_sequence([unfolded_node(rng, line) for line in walk_of(rng, graph, finished)])
+
+
+def unfolded_node(rng, line):
+    """The events of one of the unfoldings of a node, and its pairs. Behind the gates of its charts there is nobody."""
+    if line.form != "refer":
+        return beside([unfolded_walk(rng, frame, True) for frame in line.frames])
+    events, pairs = unfolded_expression(rng, line.expression)
+    for event in events:
+        event.open = None
+    return events, pairs
+
+
+# --- whole charts -------------------------------------------------------------------------------
+
+def in_order(rng, waiting, pairs):
+    """The events in an order that the pairs allow; where they have a cycle, some of them."""
+    run, earlier = [], {event: set() for event in waiting}
+    for first, second in pairs:
+        earlier[second].add(first)
+    while earlier:
+        due = [event for event, firsts in earlier.items() if firsts.isdisjoint(earlier)]
         if not due:
             break
-        event = rng.choice(due)
-        waiting.remove(event)
-        run.append(event)
+        run.append(rng.choice(due))
+        del earlier[run[-1]]
     return run
+
+
+def has_runs(chart):
+    """Whether a walk through the chart's graph can come to an end; any other chart has runs."""
+    return not chart.graph or any(line in steps_to_end(chart.graph) for line in chart.graph.starts)
+
+
+def run_of(rng, chart):
+    """A run of the chart; where it has none, or the order has a cycle, some events of it."""
+    return in_order(rng, *unfolded_chart(rng, chart))
+
+
+def beginning_of(rng, chart):
+    """What has happened so far in a run of the chart, or on a walk under way through its graph."""
+    run = in_order(rng, *(unfolded_walk(rng, chart.graph, False) if chart.graph else unfolded_chart(rng, chart)))
+    return run[:rng.randint(0, len(run))] if rng.random() < 0.5 else run

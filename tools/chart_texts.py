@@ -1,16 +1,25 @@
-"""How random charts are written: in stretches of statements and of columns, with a fault at one place where one is asked for."""
+"""How random charts are written: in stretches of statements and of columns, and the graphs of high-level charts line by line, with a fault at
+one place where one is asked for."""
+import random
+
 from chart_parts import Condition, Event, Inline, Level, Reference, Stop
 
 # what can be wrong in a text; for each a place of its own is drawn
 OF_PARTS = ["a part lacks", "another list", "no name", "not its own column", "another form", "other operands", "another bound", "another expression", "parts exchanged"]
 FAULTS = ["unmatched message", "undeclared instance", "uncovered instance", "undeclared in a list", "named twice", "items exchanged", "loop bound", "missing chart", "recursive reference", "refined by itself", "refined twice"]
+GRAPH_FAULTS = ["unknown label", "unknown label", "label named twice", "label named twice", "several labels", "loop bound", "missing chart", "recursive reference"]
+NODE_LINES = 4096
+# lines that break a rule wherever they stand
+FAULTY_LINES = ["W0: end;", "V: connect seq (nolabel);", "V: (nochart) seq (V);", "V: (loop <1000001> empty) seq (V);"]
 
 
 class Writer:
     """Writes a chart. With a fault, the places where it can be are counted, and it is put into the one of the number `site`."""
 
-    def __init__(self, rng, name, instances, refined, fault, site):
-        self.rng, self.name, self.instances, self.fault, self.site, self.sites, self.written = rng, name, instances, fault, site, 0, {}
+    def __init__(self, rng, fault, site, names, instances, refined):
+        self.rng, self.instances, self.fault, self.site, self.sites, self.written = rng, instances, fault, site, 0, {}
+        # the names of the chart and of those that are made later, which may lead back to it
+        self.name, self.later = names[0], names[1:]
         # the charts that refine instances; where this is still to be written; and the items, numbered as they are first written
         self.refined, self.waiting, self.places = refined, {i: rng.choice(["list", "list", "statement", "column", "operand"]) for i in refined}, {}
 
@@ -59,7 +68,11 @@ class Writer:
         del self.waiting[i]
         if self.here("missing chart"):
             return " decomposed as nochart"
-        return f" decomposed as {self.name if self.here('recursive reference') else self.refined[i].name}"
+        return f" decomposed as {self.leading_back() if self.here('recursive reference') else self.refined[i].name}"
+
+    def leading_back(self):
+        """The name of a chart that leads back to this one, or may."""
+        return self.rng.choice([self.name, *self.later])
 
     # an event, and its faults
     def event(self, event, cover):
@@ -146,7 +159,7 @@ class Writer:
         if held.form == "chart":
             if self.here("missing chart"):
                 return "nochart"
-            return self.name if self.here("recursive reference") else held.chart.name
+            return self.leading_back() if self.here("recursive reference") else held.chart.name
         if held.form == "empty":
             return "empty"
         parts = [self.part_of(part) for part in held.parts]
@@ -250,3 +263,74 @@ class Writer:
         if names == [i] and rng.random() < 0.7:
             return rng.choice(["", " shared"]) if isinstance(item, (Inline, Reference)) else ""
         return f" shared {','.join(names)}"
+
+
+class GraphWriter(Writer):
+    """Writes a high-level chart."""
+
+    def chart(self, graph):
+        rng, lines = self.rng, self.heads_of_graph() + self.graph(graph)
+        if self.here("syntax"):
+            lines.insert(rng.randint(0, len(lines)), rng.choice(["bad", "i: stop;", "Z: end seq (Z);", "Z: connect;", "endexpr;"]))
+        return f"msc {self.name};\n" + rng.choice([" ", "\n"]).join(lines) + "\nendmsc;"
+
+    def heads_of_graph(self):
+        """Heads, which say nothing of a high-level chart, whatever they name."""
+        heads = ["inst i, j;", "inst i decomposed as nochart, i;", f"inst z : process K decomposed as {self.name};", "msg a, b;", "timer x;"]
+        return self.rng.sample(heads, self.rng.choice([0, 0, 0, 1, 2]))
+
+    def graph(self, graph):
+        """Where it begins, and its lines."""
+        begin = f"expr {self.targets(graph.starts)}{self.comment()};"
+        lines = [self.line(line, graph) for line in graph.lines]
+        if self.here("too many lines"):
+            lines += self.further(NODE_LINES + self.rng.choice([0, 1, 1, 2]) - len(lines))
+        return [begin, *lines]
+
+    def further(self, count):
+        """So many lines that no walk comes to, one of which may break a rule that is looked at later."""
+        lines = [f"W{number}: connect seq (W{max(number - 1, 0)});" for number in range(count)]
+        if self.rng.random() < 0.5:
+            lines[self.rng.randrange(1, count)] = self.rng.choice(FAULTY_LINES)
+        return lines
+
+    def spoils(self, fault):
+        """Whether a label is to be spoilt here; of several labels, each now and then."""
+        if self.fault != "several labels":
+            return self.here(fault)
+        self.sites += 1
+        return self.rng.random() < 0.15
+
+    def targets(self, lines):
+        return " alt ".join(self.rng.choice(["nolabel", "L9", "M9"]) if self.spoils("unknown label") else line.label for line in lines)
+
+    def line(self, line, graph):
+        label, behind = line.label, ""
+        if self.spoils("label named twice"):
+            other = self.rng.choice(graph.lines).label
+            label, behind = (other, "") if self.rng.random() < 0.3 else (label, f" {other}: {self.rng.choice(['end', f'connect seq ({other})'])};")
+        if line.form == "end":
+            return f"{label}: end{self.comment()};{behind}"
+        return f"{label}: {self.node(line)} seq ({self.targets(line.next)}){self.comment()};{behind}"
+
+    def node(self, line):
+        if line.form == "refer":
+            return f"({self.expression(line.expression)})"
+        if line.form == "frames":
+            return " par ".join(" ".join([*self.graph(frame), "endexpr"]) for frame in line.frames)
+        return "connect" if line.form == "connect" else self.rng.choice(["condition c", "condition c, d", "condition end"])
+
+    def comment(self):
+        return " comment 'then'" if self.rng.random() < 0.03 else ""
+
+
+def writer_of(rng, faults, held, kind, *parts):
+    """The writer of a chart, of the kind and with the parts that are given: with the first of the faults for which the chart has places, at
+    one of them."""
+    seed = rng.random()
+    for fault in faults:
+        counting = kind(random.Random(seed), fault, None, *parts)
+        counting.chart(held)
+        if counting.sites:
+            return kind(random.Random(seed), fault, rng.randrange(counting.sites), *parts)
+    return kind(random.Random(seed), None, None, *parts)

@@ -7,11 +7,12 @@ PROGRAM and MODEL are programs that take the words of mscjudge; either may be a 
 is asked in the same process, so it is fast. With one folder as both, the documents alone are tried.
 
 Documents have charts of events of all kinds, stops, coregions, references and inline expressions (up to three within each other, shared
-and not), with gates that are called, joined and left open, in statements and in columns, with labels and general ordering. In two of five
-documents some instances are decomposed, one or both ends of a message, by charts of one instance or several. More than a third of the
-documents are faulty at one place. Logs are runs of their charts, beginnings of runs, and runs damaged at a random place, in text or JSON,
-and some are judged within the least budget that lets them pass, and within one less. What is a run is also known here without the model,
-so a model that errs there is found.
+and not), with gates that are called, joined and left open, in statements and in columns, with labels and general ordering. In a third of
+the documents some instances are decomposed, one or both ends of a message, by charts of one instance or several; in another third many are
+high-level charts, whose graphs have loops back, frames, connectors and conditions, name other graphs, and are named by basic charts. More
+than a third of the documents are faulty, at one place or two. Logs are runs of their charts, beginnings of runs, what has happened on a walk
+under way, and runs damaged at a random place, in text or JSON, and some are judged within the least budget that lets them pass, and within
+one less. What is a run, or the beginning of one, is also known here without the model, so a model that errs there is found.
 
 Each difference is printed with what it takes to see it again: document K of a seed is made alone by `--first K --documents 1`. At the
 end stands how often each answer came. It ends with status 1 where there is a difference.
@@ -32,6 +33,8 @@ import random_charts
 
 MOST = 20_000
 SECONDS = 60
+# statuses
+CONFORMS, EARLY, TOO_LARGE = 0, 3, 6
 
 
 class Program:
@@ -108,12 +111,13 @@ def verdict_of(text):
 
 
 def log_of(rng, chart):
-    """A log, whether it is in JSON, and whether it is a run of the chart as it was made."""
-    run = chart_parts.run_of(rng, chart)
+    """A log, whether it is in JSON, and the statuses that it may have, as the chart was made: those of a run, or of a beginning."""
+    whole = chart_parts.has_runs(chart) and rng.random() < (0.7 if chart.graph else 0.95)
+    run = chart_parts.run_of(rng, chart) if whole else chart_parts.beginning_of(rng, chart)
     events = [*chart.events(), *run]
     damage = rng.random() if events else 1
     if damage < 0.15:
-        run = run[:rng.randint(0, len(run))]
+        run, whole = run[:rng.randint(0, len(run))], False
     elif damage < 0.3 and run:
         del run[rng.randrange(len(run))]
     elif damage < 0.4:
@@ -134,8 +138,9 @@ def log_of(rng, chart):
     odd = rng.random() < 0.03
     if odd:
         lines.insert(rng.randint(0, len(lines)), "nonsense")
-    odd = odd or (creates and version != 2)
-    return "\n".join(lines) + rng.choice(["\n", ""]), form == "json", damage >= 0.65 and not odd
+    known = not odd and (not creates or version == 2) and (damage < 0.15 or damage >= 0.65)
+    statuses = (CONFORMS, TOO_LARGE) if whole else (CONFORMS, EARLY, TOO_LARGE)
+    return "\n".join(lines) + rng.choice(["\n", ""]), form == "json", statuses if known else None
 
 
 def least_budget(model, words):
@@ -152,14 +157,14 @@ def least_budget(model, words):
 
 def compare_log(rng, both, chart):
     """Compares the verdicts on a log of the chart."""
-    log, is_json, is_run = log_of(rng, chart)
+    log, is_json, statuses = log_of(rng, chart)
     both.hold(l=log)
     words = ["judge", "d", chart.name, "l", *(["--log-json"] if is_json else [])]
     answer = both.compare(*words, "--budget", str(MOST), *rng.choice([[], ["--json"]]))
     plain = both.model.answer([*words, "--budget", str(MOST)])
     both.told[verdict_of(plain[1])] += 1
-    if is_run and chart.fault is None and answer[0] not in (0, 6):
-        both.differ(words, ("made as a run, and the model says", plain))
+    if statuses and chart.fault is None and answer[0] not in statuses:
+        both.differ(words, (f"made for one of the statuses {statuses}, and the model says", plain))
     if rng.random() < 0.2 and answer[0] != 5:
         budget = least_budget(both.model, words)
         for within in {budget, max(1, budget - 1)}:

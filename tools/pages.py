@@ -129,7 +129,7 @@ def of_limits():
     limits = dict(re.findall(r"pub const (\w+): u64 = ([\d_]+);", open("crates/msc_base/src/limits.rt").read()))
     section = open("README.md").read().split("## Limits")[1].split("\n## ")[0]
     shown = set(re.findall(r"\d[\d,]*\d|\d", "\n".join(line.split("|")[2] for line in section.splitlines() if line.startswith("| "))))
-    told = ("DOCUMENT_BYTES", "CHARTS", "INSTANCES", "NESTING", "EXPANDED_NESTING", "EXPANDED_SIZE", "TOTAL_SIZE", "LOOP_BOUND", "NAME_BYTES", "LOG_BYTES",
+    told = ("DOCUMENT_BYTES", "CHARTS", "INSTANCES", "NODE_LINES", "NESTING", "EXPANDED_NESTING", "EXPANDED_SIZE", "TOTAL_SIZE", "LOOP_BOUND", "NAME_BYTES", "LOG_BYTES",
             "LOG_EVENTS", "LINE_BYTES", "BUDGET_DEFAULT", "BUDGET_MOST")
     for name in told:
         if limits[name].replace("_", ",") not in shown:

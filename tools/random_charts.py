@@ -2,7 +2,8 @@
 
 A chart is made as a tree of levels first (chart_parts.py): a body has stops too, and a child is created in front of all that it does there.
 A reference has an expression over charts that were made before, and some of these refine instances. From the tree come runs, by the meaning
-of the forms alone, and the text (chart_texts.py).
+of the forms alone, and the text (chart_texts.py). High-level charts are made of graphs (random_graphs.py); they stand among the others,
+and in some documents more than half are of this kind.
 
 Events may stand at gates, each gate of a chart with one event. Where one run has one event at most at a gate of an inline expression or
 reference, and none in a loop, an event of the level may call it, or a join tie it with one of another; references join gates to others of
@@ -11,13 +12,11 @@ their chart. In documents in layers each chart refers to the one before, and man
 A decomposed instance has for each event of its chart with the environment one of the same direction and text, with the environment, another
 instance, or another decomposed one. Charts that are made to refine have such events at their outermost level alone.
 """
-import random
-
 from chart_parts import Condition, Coregion, Event, Expression, Inline, Level, Reference, Stop, Tied, gates_inside, gates_of_expression, instances_of, woven
-from chart_texts import FAULTS, OF_PARTS, Writer
+from chart_texts import FAULTS, OF_PARTS, Writer, writer_of
+from random_graphs import BOUNDS, HighLevel, Naming, that_end
 
 DEPTH = 3
-BOUNDS = [(1, None), (1, None), (0, None), (0, 1), (1, 2), (2, 2), (2, None), (0, 0), (3, 1), (1, 1)]
 EVENTS = 14
 EXPANDED = 28
 # the instances of charts that refine others have other names, so that they take part nowhere else
@@ -30,20 +29,23 @@ REFINING = ["decomposition mismatch", "decomposed instance shared", "decompositi
 STRUCTURAL = ["exc placed", "event named twice", "unknown event", "cyclic order", "uncovered instance", "event after stop", *CREATING, *GATES, *GATES]
 
 
-class Maker:
+class Maker(Naming):
     """Makes the levels of a chart."""
 
-    def __init__(self, rng, structural, instances, refined, others, quiet, layered):
-        self.rng, self.left, self.structural, self.count = rng, EVENTS // 2 if layered else EVENTS, structural, 0
-        self.instances, self.refined, self.others, self.expanded, self.created = instances, refined, others, 0, set()
+    def __init__(self, rng, structural, instances, refined, others, quiet, layered, events):
+        super().__init__(rng, others)
+        self.left, self.structural, self.count, self.least = events, structural, 0, 3 if quiet or events < EVENTS else 0
+        self.instances, self.refined, self.expanded, self.created = instances, refined, 0, set()
         # whether events with the environment stand at the outermost level alone; and of a chart in layers, how often gates are handed on
         self.quiet, self.layered, self.handed = quiet, layered, rng.choice([0.1, 0.9]) if layered else 0.4
+        # the events of the charts that it refers to; small charts, of which graphs are made, refer to few
+        self.most = 2 * EXPANDED if layered else EXPANDED if events == EVENTS else EVENTS
         # charts with many events at gates refer to others with many
         self.gates, self.gated = 0, layered or structural in GATES or rng.random() < (0.8 if any(chart.gated for chart in others) else 0.3)
 
     def level(self, cover, depth):
         rng, items, waiting = self.rng, [], []
-        for _ in range(rng.randint(3 if (self.quiet or self.layered) and depth == 0 else 0, 6 if depth == 0 else 3) if cover else 0):
+        for _ in range(rng.randint(self.least if depth == 0 else 0, 6 if depth == 0 else 3) if cover else 0):
             wanted = 1 if self.layered and not items else 0.5 if self.gated else 0.3
             reference = self.reference(cover) if self.others and rng.random() < wanted else None
             creation = self.creation(cover, depth, items)
@@ -109,8 +111,11 @@ class Maker:
         if kind == "message":
             text, pairing = rng.choice(["a", "b", "a(x)", "a('y z')"]), rng.choice(["", "", "", "1", "2"])
             self.left -= 1
-            waiting.append(Event(far, "in", text, at, pairing))
-            return Event(at, "out", text, far, pairing)
+            ends = [Event(at, "out", text, far, pairing), Event(far, "in", text, at, pairing)]
+            if self.structural == "cyclic order" and rng.random() < 0.4:
+                ends.reverse()
+            waiting.append(ends[1])
+            return ends[0]
         if kind in ("out to env", "in from env"):
             event = Event(at, kind.split()[0], rng.choice(["e"] * 5 + ["f", "e(x)"]), "env", rng.choice([""] * 5 + ["1"]))
             event.gate = event.open = self.gate() if rng.random() < (0.8 if self.gated else 0.4) else None
@@ -288,7 +293,7 @@ class Maker:
         if not set(asked) <= set(cover) and not (self.structural == "uncovered instance" and rng.random() < 0.5):
             return None
         size = sum(chart.size for chart in expression.charts())
-        if self.expanded + size > (2 * EXPANDED if self.layered else EXPANDED) or not self.may_refer(expanded, expression):
+        if self.expanded + size > self.most or not self.may_refer(expanded, expression):
             return None
         self.expanded += size
         own = [i for i in cover if i in asked or rng.random() < 0.3] or [rng.choice(cover)]
@@ -308,14 +313,10 @@ class Maker:
         return apart and not (self.quiet and any(chart.crossing for chart in expression.charts()))
 
     def expression(self, depth):
-        rng = self.rng
-        if self.layered and rng.random() < 0.4:
+        """An expression; in a chart in layers, mostly over the chart before."""
+        if self.layered and self.rng.random() < 0.4:
             return Expression("chart", chart=self.others[-1])
-        form = rng.choice(["chart"] * 5 + ["empty"] + (["alt", "par", "seq", "opt", "loop"] if depth else []))
-        if form == "chart":
-            return Expression(form, chart=rng.choice(self.others + [chart for chart in self.others if chart.refined] * 2))
-        parts = {"empty": 0, "opt": 1, "loop": 1}.get(form, rng.randint(2, 3))
-        return Expression(form, [self.expression(depth - 1) for _ in range(parts)], bounds=rng.choice(BOUNDS))
+        return super().expression(depth)
 
     def coregions(self, level):
         """Puts events of one instance that stand together into coregions, now and then."""
@@ -360,6 +361,13 @@ def faults_in_turn(rng):
     return front + (of_parts + others if rng.random() < 0.7 else others + of_parts)
 
 
+def structural_fault(rng, others, refines):
+    """What is to be wrong in how a chart is made; now and then nothing, so that its text has a fault."""
+    if any(chart.endless for chart in others) and rng.random() < 0.3:
+        return "endless graph"
+    return rng.choice(REFINING if refines and rng.random() < 0.8 else STRUCTURAL) if rng.random() < (0.7 if refines else 0.3) else None
+
+
 def refinements(rng, instances, others, structural):
     """Some of the instances, now and then one more, and charts that refine them; where a rule is to be broken, also charts that may not."""
     refined, used = {}, set()
@@ -376,38 +384,27 @@ def refinements(rng, instances, others, structural):
 
 
 class Chart:
-    """A chart: its name, its outermost level, its text, the charts that refine its instances, and which fault was put into it, if one was."""
+    """A basic chart: its name, its outermost level, its text, the charts that refine its instances, and which fault was put into it, if one was."""
 
-    def __init__(self, rng, name, faulty, others, family, refines, layered):
-        self.name, self.fault = name, None
+    def __init__(self, rng, names, faulty, others, family, refines, layered, events):
+        self.name, self.graph, self.endless = names[0], None, False
         plain = rng.sample(family, rng.randint(1, 4))
-        structural = rng.choice(REFINING if refines and rng.random() < 0.8 else STRUCTURAL) if faulty and rng.random() < (0.7 if refines else 0.3) else None
+        structural = structural_fault(rng, others, refines) if faulty else None
         plain, self.refined = refinements(rng, plain, others, structural) if refines else (plain, {})
         instances = rng.sample([*plain, *self.refined], len(plain) + len(self.refined))
-        maker = Maker(rng, structural, instances, self.refined, others, family != FAMILIES[0] and rng.random() < 0.9, layered)
+        maker = Maker(rng, structural, instances, self.refined, that_end(others, structural), family != FAMILIES[0] and rng.random() < 0.9, layered, events)
         self.gated = maker.gated
         self.level = maker.level(plain, 0)
-        self.size = (EVENTS // 2 if layered else EVENTS) - maker.left + maker.expanded + sum(chart.size for chart in self.refined.values()) + 1
+        self.size = events - maker.left + maker.expanded + sum(chart.size for chart in self.refined.values()) + 1
         named = [*self.referred(), *self.refined.values()]
         self.expanded = {*plain, *(i for chart in named for i in chart.expanded)}
-        writer = self.written(rng, instances, faulty and not structural)
+        writer = writer_of(rng, faults_in_turn(rng) if faulty and not structural else [], self.level, Writer, names, instances, self.refined)
         self.text = writer.chart(self.level)
         for level in self.level.levels():
             level.items = woven(level, writer.places)
         self.crossings()
         # what is said of a chart that names a faulty one is as doubtful
-        self.fault = structural or self.fault or next((chart.fault for chart in named if chart.fault), None)
-
-    def written(self, rng, instances, faulty):
-        """The writer of the chart, with a fault where the chart has a place for one and is to be faulty."""
-        seed, site = rng.random(), None
-        for fault in faults_in_turn(rng) if faulty else []:
-            counting = Writer(random.Random(seed), self.name, instances, self.refined, fault, None)
-            counting.chart(self.level)
-            if counting.sites:
-                self.fault, site = fault, rng.randrange(counting.sites)
-                break
-        return Writer(random.Random(seed), self.name, instances, self.refined, self.fault, site)
+        self.fault = structural or writer.fault or next((chart.fault for chart in named if chart.fault), None)
 
     def crossings(self):
         """What it has with the environment: at its outermost level; whether elsewhere; and whether at all."""
@@ -424,22 +421,37 @@ class Chart:
         return [event for level in self.level.levels() for event in level.events()]
 
 
+def kind_of_document(rng):
+    """Whether the first charts are made to refine instances of the others; whether each hands on gates; or whether many have graphs."""
+    return rng.choice(["refining"] * 4 + ["layered"] * 2 + ["graphs"] * 4 + ["plain"] * 3)
+
+
 def document_of(rng):
-    """Charts, and the text of a document of them; in some the first ones are made to refine instances of the others, or each hands gates on."""
-    refining, layered = rng.choice([(True, False)] * 4 + [(False, True)] * 2 + [(False, False)] * 4)
-    count = rng.randint(3, 6) if refining or layered else rng.randint(0, 4)
+    """Charts, and the text of a document of them; in some the first ones are made to refine instances of the others, or each hands gates on,
+    or many are high-level charts, over small ones."""
+    kind = kind_of_document(rng)
+    count = rng.randint(0, 4) if kind == "plain" else rng.randint(3, 6)
     names = [rng.choice(["A", "B"]) if rng.random() < 0.1 else f"C{number}" for number in range(count)]
-    faulty = rng.randrange(count // 3 if refining else 0, count) if count and rng.random() < 0.6 else None
+    may_err = range(count // 3 if kind == "refining" else 0, count)
+    faulty = rng.sample(may_err, min(rng.choice([1, 1, 1, 1, 1, 2]), count)) if rng.random() < 0.6 else []
     charts = []
-    for number, name in enumerate(names):
-        first = refining and number < count // 2
-        family = FAMILIES[1 + number % 2] if first else FAMILIES[0]
-        refines = refining and rng.random() < (0.2 if first else 0.9)
-        others = charts + charts[-1:] * 3 if layered else list(charts) if refining or rng.random() < 0.8 else []
-        charts.append(Chart(rng, name, number == faulty, others, family, refines, layered))
+    for number in range(count):
+        charts.append(chart_of(rng, kind, names[number:], number in faulty, charts, number < count // 2))
     if rng.random() < 0.5:
         rng.shuffle(charts)
     text = "\n".join(chart.text for chart in charts)
     if rng.random() < 0.2:
         text = f"mscdocument X;\n{text}\nendmscdocument;"
     return charts, text
+
+
+def chart_of(rng, kind, names, faulty, charts, early):
+    """A chart of the first of the names, behind these charts."""
+    if charts and rng.random() < (0.55 if kind == "graphs" else 0.12):
+        return HighLevel(rng, names, faulty, charts)
+    first = kind == "refining" and early
+    family = FAMILIES[1 + len(charts) % 2] if first else FAMILIES[0]
+    refines = kind == "refining" and rng.random() < (0.2 if first else 0.9)
+    others = charts + charts[-1:] * 3 if kind == "layered" else list(charts) if kind != "plain" or rng.random() < 0.8 else []
+    events = EVENTS // 2 if kind in ("layered", "graphs") else EVENTS
+    return Chart(rng, names, faulty, others, family, refines, kind == "layered", events)

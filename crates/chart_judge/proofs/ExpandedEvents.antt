@@ -9,12 +9,12 @@ use Rattle.std.proofs.lemmas.Bool.{or_left, or_right}
 use Rattle.chart_forms.specs.BodyEvents.{events_within, item_within, items_within, operands_within}
 use Rattle.chart_forms.specs.BuiltBodies.{AreBuiltBodies, AreBuiltItems, AreBuiltNodes, IsBuiltBody, IsBuiltItem, IsBuiltNode, IsChild}
 use Rattle.expanded_charts.specs.Expanding as tree
-use Rattle.expanded_charts.specs.Expanding.{NumberedEvent, Expanded, ExpandedParts, expand_events, expand, expand_all, expand_level, expand_items, expand_item, expand_operands, expand_refinings, expand_woven, expand_entry, expand_charts}
+use Rattle.expanded_charts.specs.Expanding.{NumberedEvent, Expanded, ExpandedParts, expand_events, expand, expand_all, expand_level, expand_items, expand_item, expand_operands, expand_refinings, expand_graph, expand_lines, expand_node, expand_frames, expand_woven, expand_entry, expand_charts}
 use Rattle.gate_ends.specs.FoundEnds.{table_ends}
 use Rattle.expanded_terms.specs.PlacedTerms.{child_at, child_of}
 use Rattle.expansion_tree.specs.Expansions.{all_events_in, events_in}
-use Rattle.msc_acceptance.specs.AcceptedCharts.{EachChart, IsAcceptedChart, table_instances}
-use Rattle.msc_acceptance.specs.Listing.{content_instances, cover_of}
+use Rattle.msc_acceptance.specs.AcceptedCharts.{EachChart, IsAcceptedChart, IsAcceptedContent, table_instances}
+use Rattle.chart_lists.specs.Listing.{content_instances, cover_of}
 use Rattle.msc_base.specs.Lists.{IsAmong}
 use Rattle.msc_base.specs.NameTables.{with_name}
 use Rattle.msc_base.specs.Orders.{Among, first, later, Once}
@@ -33,17 +33,20 @@ use Rattle.msc_meaning.specs.Levels.{IsWovenLevel, woven}
 use Rattle.msc_meaning.specs.Pairing.{ArePairs}
 use Rattle.msc_meaning.specs.Pieces.{Piece}
 use Rattle.msc_meaning.specs.Refinements.{Refining, all_matches, matches, past_refining, refining_by, refinings, without_decomposed}
-use Rattle.msc_meaning.specs.Tables.{ChartEntry, Table, body_in, chart_at, Woven, Basic, Refinement, refinements}
+use Rattle.msc_meaning.specs.Tables.{ChartEntry, Table, body_in, chart_at, Woven, Basic, HighLevel, Refinement, refinements}
 use Rattle.msc_meaning.specs.Ties.{ties}
 use Rattle.msc_tree.specs.declared.reference.InlineForm.{InlineForm}
 use Rattle.msc_tree.specs.declared.reference.InlineForm.TheVariants as inline
 use Rattle.msc_tree.specs.Expressions.{Expression, Empty, Chart, Alt, Par, Seq, Opt, Expressions, none, more}
 use Rattle.msc_tree.specs.Expressions as expression
+use Rattle.msc_tree.specs.Graphs as graphs
+use Rattle.msc_tree.specs.Graphs.{Graph, graph, Lines, no_lines, line_and, line, Node, Ends, Connect, Condition, Frames, Graphs, no_graphs, graph_and}
 use Rattle.msc_tree.specs.declared.event.Target.{Target}
 use Rattle.msc_tree.specs.declared.event.Target.TheVariants.{Instance}
 use Rattle.msc_unfolding.specs.Unfoldings.{Happening}
 use Rattle.table_terms.specs.TableTerms.{chart_expansion}
 use Rattle.chart_judge.proofs.FreeEnds.{AreFree, free_left, free_of_none, free_right, inner_free, left_built, left_within, refined_free}
+use Rattle.msc_tree.specs.declared.chart.Decl.{Decl}
 use Rattle.chart_judge.proofs.NamedBodies.{content_body}
 use Rattle.chart_judge.proofs.TableEntries.{entry_has}
 
@@ -99,6 +102,25 @@ module _ (ends_of : WovenItems → List GateEnd) (P : Happening → Type 0) wher
       expressions_each gates n (more x xs) =
           let e = expand chart ends_of gates n x in
           put_each e (expand_all chart ends_of gates e.next xs) (expression_each gates n x) (expressions_each gates (expand chart ends_of gates n x).next xs)
+
+    mutual
+      lines_each : (n : ℕ) (lines : Lines) → EachOfAll (expand_lines chart ends_of n lines)
+      lines_each n no_lines = tt
+      lines_each n (line_and (line label place node next) rest) = put_each (expand_node chart ends_of n node) (expand_lines chart ends_of (expand_node chart ends_of n node).next rest) (node_each n node) (lines_each (expand_node chart ends_of n node).next rest)
+
+      node_each : (n : ℕ) (node : Node) → EachOf (expand_node chart ends_of n node)
+      node_each n Ends = tt
+      node_each n Connect = tt
+      node_each n (Condition names) = tt
+      node_each n (graphs.Refer e) = expression_each no_gates n e
+      node_each n (Frames held) = frames_each n held
+
+      frames_each : (n : ℕ) (held : Graphs) → EachOfAll (expand_frames chart ends_of n held)
+      frames_each n no_graphs = tt
+      frames_each n (graph_and drawn rest) = put_each (expand_graph chart ends_of n drawn) (expand_frames chart ends_of (expand_graph chart ends_of n drawn).next rest) (graph_each n drawn) (frames_each (expand_graph chart ends_of n drawn).next rest)
+
+      graph_each : (n : ℕ) (drawn : Graph) → EachOf (expand_graph chart ends_of n drawn)
+      graph_each n (graph starts lines) = lines_each (suc n) lines
 
     module _ (names : List (List ℕ)) (holds : (es : List GateEnd) (a : Around) (k : EventNode) → AreFree a.far (k ∷ []) → IsBuiltNode names k → P (happening es a k)) where
       nodes_each : (es : List GateEnd) (a : Around) (n : ℕ) (ks : List EventNode) → AreFree a.far ks → AreBuiltNodes names ks → EachOfAll (expand_events chart ends_of es a n ks)
@@ -233,15 +255,16 @@ module _ (table : Table) (charts : EachChart IsAcceptedChart table) where
         put_each (table_ends table) Settled (tree.past (past_refining ms) (tree.tied (ties inner pairs (calls inner) (table_ends table inner)) (tree.in_row items))) (expand_refinings chart (table_ends table) far_of items.next others)
         (settled_items cover there (gates_of inner (table_ends table inner)) (refining_under far_of ms) n inner (inner_free far_of i held inner once) built) (rest items.next)
 
+    given_settled : (far_of : EventNode → Far) (n : ℕ) (i : List ℕ) (held : WovenItems) (others : List Refining) (name : List ℕ) (decls : List Decl) (w : Woven) → IsAcceptedContent w → ((m : List ℕ) → IsAmong (content_instances w) m → IsAmong (table_instances [] table) m)
+        → ((n : ℕ) → AreEach (expand_refinings chart (table_ends table) far_of n others)) → AreEach (expand_refinings chart (table_ends table) far_of n (refining_by i held (content_body name decls w) ++ others))
+    given_settled far_of n i held others name decls (Basic b) a there rest = refining_settled far_of n i held b others a.built a.once there rest
+    given_settled far_of n i held others name decls (HighLevel drawn) a there rest = rest n
+
     one_settled : (far_of : EventNode → Far) (n : ℕ) (r : Refinement) (held : WovenItems) (others : List Refining) (o : Option ChartEntry) → chart_at table r.chart ≡ o
         → ((n : ℕ) → AreEach (expand_refinings chart (table_ends table) far_of n others))
         → AreEach (expand_refinings chart (table_ends table) far_of n (refining_by r.instance held (body_in o) ++ others))
     one_settled far_of n r held others None e rest = rest n
-    one_settled far_of n r held others (Some c) e rest =
-        let a = entry_has IsAcceptedChart table r.chart c charts e in
-        let there = subst (λ (w : Woven). (m : List ℕ) → IsAmong (content_instances w) m → IsAmong (table_instances [] table) m) a.is (table_has table [] r.chart c e) in
-        subst (λ (o : Option Body). AreEach (expand_refinings chart (table_ends table) far_of n (refining_by r.instance held o ++ others))) (sym (content_body c a.body a.is))
-        (refining_settled far_of n r.instance held a.body others a.built a.once there rest)
+    one_settled far_of n r held others (Some c) e rest = given_settled far_of n r.instance held others c.name c.decls c.content (entry_has IsAcceptedChart table r.chart c charts e) (table_has table [] r.chart c e) rest
 
     refinings_settled : (far_of : EventNode → Far) (held : WovenItems) (rs : List Refinement) (n : ℕ) → AreEach (expand_refinings chart (table_ends table) far_of n (refinings table held rs))
     refinings_settled far_of held [] n = tt
@@ -261,11 +284,17 @@ module _ (table : Table) (charts : EachChart IsAcceptedChart table) where
         (settled_items cover there g around n left (λ k i. free k (left_within (r ∷ rs) held k i)) (left_built (r ∷ rs) cover held built))
         (refinings_settled (far_end (table_ends table held) around) held (r ∷ rs) rest.next)
 
+    graph_is : (gates : GateMap) (n : ℕ) (rs : List Refinement) (drawn : Graph) → IsEach (expand_woven chart (table_ends table) table gates n rs (HighLevel drawn))
+    graph_is gates n [] drawn = graph_each (table_ends table) Settled chart known n drawn
+    graph_is gates n (r ∷ rs) drawn = graph_each (table_ends table) Settled chart known n drawn
+
+    content_settled : (gates : GateMap) (n : ℕ) (rs : List Refinement) (w : Woven) → IsAcceptedContent w → ((m : List ℕ) → IsAmong (content_instances w) m → IsAmong (table_instances [] table) m)
+        → IsEach (expand_woven chart (table_ends table) table gates n rs w)
+    content_settled gates n rs (Basic b) a there = woven_settled gates n rs b a.woven a.once a.built there
+    content_settled gates n rs (HighLevel drawn) a there = graph_is gates n rs drawn
+
     entry_settled : (gates : GateMap) (n : ℕ) (name : List ℕ) (c : ChartEntry) → chart_at table name ≡ Some c → IsEach (expand_entry (table_ends table) table chart gates n (Some c))
-    entry_settled gates n name c e =
-        let a = entry_has IsAcceptedChart table name c charts e in
-        let there = subst (λ (w : Woven). (m : List ℕ) → IsAmong (content_instances w) m → IsAmong (table_instances [] table) m) a.is (table_has table [] name c e) in
-        subst (λ (w : Woven). IsEach (expand_woven chart (table_ends table) table gates n (refinements c.decls) w)) (sym a.is) (woven_settled gates n (refinements c.decls) a.body a.woven a.once a.built there)
+    entry_settled gates n name c e = content_settled gates n (refinements c.decls) c.content (entry_has IsAcceptedChart table name c charts e) (table_has table [] name c e)
 
   charts_settled : (depth : ℕ) (name : List ℕ) (gates : GateMap) (n : ℕ) → IsEach (expand_charts (table_ends table) table depth name gates n)
   charts_settled zero name gates n = tt

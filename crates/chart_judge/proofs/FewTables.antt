@@ -4,12 +4,12 @@ use Rattle.std.proofs.Common.{sym, subst, inl, inr}
 use Rattle.chart_forms.specs.BodyEvents.{events_within, item_within, items_within, operands_within}
 use Rattle.chart_forms.specs.BuiltBodies.{AreBuiltBodies, AreBuiltItems, IsBuiltBody, IsBuiltItem}
 use Rattle.expanded_terms.specs.FewPairs.{HasFewOwn, node_numbers}
-use Rattle.expanded_terms.specs.JoinProducts.{AreFewExpressions, AreFewItems, AreFewOperands, AreFewRefined, IsFewBody, IsFewEntry, IsFewExpression, IsFewItem, IsFewLevel, IsFewTo, IsFewWoven}
+use Rattle.expanded_terms.specs.JoinProducts.{AreFewExpressions, AreFewFrames, AreFewItems, AreFewLines, AreFewOperands, AreFewRefined, IsFewBody, IsFewEntry, IsFewExpression, IsFewItem, IsFewLevel, IsFewNode, IsFewTo, IsFewWoven}
 use Rattle.gate_ends.specs.FoundEnds.{AreAll, item_names, items_names, level_names, operands_names}
 use Rattle.general_ordering.specs.EventNames.{LevelsBreakNameRule, Twice, breaks, places_where}
 use Rattle.general_ordering.proofs.NamesOnce.{names_once}
-use Rattle.msc_acceptance.specs.AcceptedCharts.{EachChart, IsAcceptedChart, IsThereTo, content_levels}
-use Rattle.msc_acceptance.specs.Listing.{cover_of}
+use Rattle.msc_acceptance.specs.AcceptedCharts.{EachChart, IsAcceptedBody, IsAcceptedChart, IsAcceptedContent, IsThereTo, content_levels, content_names, used_refinements}
+use Rattle.chart_lists.specs.Listing.{cover_of}
 use Rattle.msc_base.specs.Lists.{IsAmong}
 use Rattle.msc_base.specs.Orders.{Among, first, later, Once}
 use Rattle.msc_base.specs.declared.place.Place.{Place}
@@ -19,12 +19,17 @@ use Rattle.msc_meaning.specs.InnerEvents.{charts_in, charts_in_all}
 use Rattle.msc_meaning.specs.Levels.{IsWovenLevel, woven, AreWovenItems, no_woven, woven_and, IsWovenItem, an_event, a_coregion, an_inline, a_reference, AreWovenOperands, no_woven_operand, woven_operand_and}
 use Rattle.msc_meaning.specs.Pairing.{ArePairs}
 use Rattle.msc_meaning.specs.Pieces.{Piece}
-use Rattle.msc_meaning.specs.Tables.{ChartEntry, Table, Basic, Refinement, refinements}
+use Rattle.msc_meaning.specs.Tables.{ChartEntry, Table, body_in, Woven, Basic, HighLevel, Refinement, refinements}
 use Rattle.msc_meaning.proofs.LevelLaws.{each_both, each_left, each_right}
+use Rattle.msc_base.specs.declared.label.LabelRef.{LabelRef}
+use Rattle.msc_tree.specs.declared.chart.Decl.{Decl}
+use Rattle.msc_tree.specs.Graphs as graphs
+use Rattle.msc_tree.specs.Graphs.{graph, Lines, no_lines, line_and, line, Node, Ends, Connect, Condition, Frames, Graphs, no_graphs, graph_and}
+use Rattle.woven_laws.specs.GraphNames.{frames_names, lines_names, node_names}
 use Rattle.msc_tree.specs.Expressions.{Expression, Empty, Chart, Alt, Par, Seq, Opt, Loop, Expressions, none, more}
 use Rattle.msc_tree.specs.declared.reference.InlineForm.{InlineForm}
 use Rattle.gate_rules.specs.GateLaws.{HasGates}
-use Rattle.chart_judge.proofs.NamedBodies.{HasBody, IsGatedLevel, all_left, all_right, has_body, refining_names, there_body}
+use Rattle.chart_judge.proofs.NamedBodies.{HasContent, IsGatedLevel, all_left, all_right, content_body, has_content, refining_names, there_content}
 use Rattle.chart_judge.proofs.LevelPairs.{level_is_few}
 
 -- ---- numbers that differ
@@ -156,7 +161,7 @@ both_levels : (table : Table) (ls : List BodyLevel) → EachLevel IsNumberedLeve
 both_levels table [] h g = tt
 both_levels table (l ∷ ls) h g = ((h.0, g.0), both_levels table ls h.1 g.1)
 
-module _ (table : Table) (Is Few : List ℕ → Type 0) (known : (name : List ℕ) → Is name → Few name) (bodies : (name : List ℕ) → Is name → HasBody table Is name) where
+module _ (table : Table) (Is Few : List ℕ → Type 0) (known : (name : List ℕ) → Is name → Few name) (contents : (name : List ℕ) → Is name → HasContent table Is name) where
   mutual
     expression_few : (e : Expression) → AreAll Is (charts_in e) → IsFewExpression Few e
     expression_few Empty h = tt
@@ -196,25 +201,51 @@ module _ (table : Table) (Is Few : List ℕ → Type 0) (known : (name : List �
         operands_few f bs p.1 (each_right (IsFewLevelOf table) (levels_from (Some f) b) (operands_levels f bs) o) (all_right Is (level_names b) (operands_names bs) h),
       )
 
-  body_few : (name : List ℕ) (b : HasBody table Is name) → IsFewLevel Few b.accepted.body
-  body_few name b =
-      let a = b.accepted in
-      let numbered = numbered_levels (body_levels a.body) (own_body None a.body a.woven) (once_body None a.body a.once) a.named_once in
-      level_few (cover_of a.body) None a.body a.built (both_levels table (body_levels a.body) numbered b.gated) b.named
+  body_few : (b : Body) → IsAcceptedBody b → EachLevel (IsGatedLevel table) (body_levels b) → AreAll Is (level_names b) → IsFewLevel Few b
+  body_few b a gated named =
+      let numbered = numbered_levels (body_levels b) (own_body None b a.woven) (once_body None b a.once) a.named_once in
+      level_few (cover_of b) None b a.built (both_levels table (body_levels b) numbered gated) named
+
+  -- the body of a chart, where it has one
+  given_few : (name : List ℕ) (decls : List Decl) (w : Woven) → IsAcceptedContent w → EachLevel (IsGatedLevel table) (content_levels w) → AreAll Is (content_names w) → IsFewBody Few (content_body name decls w)
+  given_few name decls (Basic b) a g n = body_few b a g n
+  given_few name decls (HighLevel drawn) a g n = tt
 
   refined_few : (rs : List Refinement) → AreAll Is (refining_names rs) → AreFewRefined Few table rs
   refined_few [] h = tt
-  refined_few (r ∷ rs) h = let b = bodies r.chart h.0 in (subst (IsFewBody Few) (sym b.at) (body_few r.chart b), refined_few rs h.1)
+  refined_few (r ∷ rs) h = let c = contents r.chart h.0 in (subst (λ (o : Option ChartEntry). IsFewBody Few (body_in o)) (sym c.is) (given_few c.chart.name c.chart.decls c.chart.content c.accepted c.gated c.named), refined_few rs h.1)
 
   woven_few : (rs : List Refinement) (b : Body) → IsFewLevel Few b → AreFewRefined Few table rs → IsFewWoven Few table rs (Basic b)
   woven_few [] b h g = h
   woven_few (r ∷ rs) b h g = (h, g)
 
-  chart_few : (name : List ℕ) (b : HasBody table Is name) → IsFewWoven Few table (refinements b.chart.decls) b.chart.content
-  chart_few name b = subst (IsFewWoven Few table (refinements b.chart.decls)) (sym b.accepted.is) (woven_few (refinements b.chart.decls) b.accepted.body (body_few name b) (refined_few (refinements b.chart.decls) b.refining))
+  mutual
+    lines_few : (lines : Lines) → AreAll Is (lines_names lines) → AreFewLines Few lines
+    lines_few no_lines h = tt
+    lines_few (line_and (line label place node next) rest) h = (node_few node (all_left Is (node_names node) (lines_names rest) h), lines_few rest (all_right Is (node_names node) (lines_names rest) h))
+
+    node_few : (node : Node) → AreAll Is (node_names node) → IsFewNode Few node
+    node_few Ends h = tt
+    node_few Connect h = tt
+    node_few (Condition names) h = tt
+    node_few (graphs.Refer expression) h = expression_few expression h
+    node_few (Frames held) h = frames_few held h
+
+    frames_few : (held : Graphs) → AreAll Is (frames_names held) → AreFewFrames Few held
+    frames_few no_graphs h = tt
+    frames_few (graph_and (graph starts lines) rest) h = (lines_few lines (all_left Is (lines_names lines) (frames_names rest) h), frames_few rest (all_right Is (lines_names lines) (frames_names rest) h))
+
+  graph_few : (rs : List Refinement) (starts : List LabelRef) (lines : Lines) → AreFewLines Few lines → IsFewWoven Few table rs (HighLevel (graph starts lines))
+  graph_few [] starts lines h = h
+  graph_few (r ∷ rs) starts lines h = h
+
+  content_few : (decls : List Decl) (w : Woven) → IsAcceptedContent w → EachLevel (IsGatedLevel table) (content_levels w) → AreAll Is (content_names w) → AreAll Is (refining_names (used_refinements decls w)) → IsFewWoven Few table (refinements decls) w
+  content_few decls (Basic b) a g n r = woven_few (refinements decls) b (body_few b a g n) (refined_few (refinements decls) r)
+  content_few decls (HighLevel (graph starts lines)) a g n r = graph_few (refinements decls) starts lines (lines_few lines n)
 
 pub few_to : (table : Table) → EachChart IsAcceptedChart table → EachChart (λ c. EachLevel (IsGatedLevel table) (content_levels c.content)) table → (depth : ℕ) (name : List ℕ) → IsThereTo table depth name → IsFewTo table depth name
 few_to table charts gates zero name h = absurd h
 few_to table charts gates (suc depth) name h =
-    let b = has_body table charts gates (IsThereTo table depth) name h in
-    subst (λ (o : Option ChartEntry). IsFewEntry (IsFewTo table depth) table o) (sym b.is) (chart_few table (IsThereTo table depth) (IsFewTo table depth) (few_to table charts gates depth) (there_body table charts gates depth) name b)
+    let c = has_content table charts gates (IsThereTo table depth) name h in
+    subst (λ (o : Option ChartEntry). IsFewEntry (IsFewTo table depth) table o) (sym c.is)
+    (content_few table (IsThereTo table depth) (IsFewTo table depth) (few_to table charts gates depth) (there_content table charts gates depth) c.chart.decls c.chart.content c.accepted c.gated c.named c.refining)

@@ -8,6 +8,8 @@ use Rattle.msc_acceptance.specs.AcceptedCharts.{EachChart, IsAcceptedTable, IsTh
 use Rattle.msc_meaning.specs.Meanings.{Finished, Begun}
 use Rattle.msc_meaning.specs.Tables.{ChartEntry, Table, chart_at}
 use Rattle.expanded_terms.specs.GateTies.{IsQuietTable}
+use Rattle.expanded_terms.specs.GraphWalks.{NetsAreWhole}
+use Rattle.graph_rules.specs.EndingGraphs.{WalksEnd}
 use Rattle.expanded_terms.specs.WholeCharts.{IsWholeTo}
 use Rattle.gate_ends.specs.EndLaws.{EndsAreFound}
 use Rattle.gate_ends.specs.FoundEnds.{table_ends}
@@ -39,7 +41,7 @@ below a b c h g = omega (arith, h, g)
 
 module _ (table : Table) (name : List ℕ) (chart : ChartEntry) (is : chart_at table name ≡ Some chart) (accepted : IsAcceptedTable table) where
   quiet : IsQuietTable table
-  quiet = all_quiet table accepted.charts accepted.gates accepted.there
+  quiet = all_quiet table accepted.gates accepted.there
 
   there : IsThereTo table EXPANDED_NESTING name
   there = name_has (IsThereTo table EXPANDED_NESTING) table name chart accepted.there is
@@ -50,36 +52,37 @@ module _ (table : Table) (name : List ℕ) (chart : ChartEntry) (is : chart_at t
   ordered : IsOrdered table EXPANDED_NESTING name
   ordered = name_has (IsOrdered table EXPANDED_NESTING) table name chart (each_ordered table EXPANDED_NESTING table accepted.ordered) is
 
-  pub graphs : HasSoundGraphs table name
-  graphs = sound_graphs table accepted.charts accepted.gates (each_ordered table EXPANDED_NESTING table accepted.ordered) name there
+  graphs : NetsAreWhole → WalksEnd → HasSoundGraphs table name
+  graphs nets ends = sound_graphs table accepted.charts accepted.gates nets ends accepted.ending (each_ordered table EXPANDED_NESTING table accepted.ordered) name there
 
   small : counted_size table name ≤ EXPANDED_SIZE
   small = name_has (λ n. counted_size table n ≤ EXPANDED_SIZE) table name chart accepted.small is
 
-  module _ (v : NetsValue) (x : Tree) (made : IsTermOf table name v x) where
+  module _ (nets : NetsAreWhole) (ends : WalksEnd) (v : NetsValue) (x : Tree) (made : IsTermOf table name v x) where
     chart_means : EndsAreFound → TableTermsMean → Means v (chart_numbering table name).names x (Finished table name) (Begun table name)
-    chart_means law laws = laws table name v x graphs quiet (whole law) made
+    chart_means law laws = laws table name v x (graphs nets ends) quiet (whole law) made
 
     chart_sound : EndsAreFound → TableTermsAreSound → TableTermsArePlaced → IsSoundFor v x
     chart_sound law sound placed = record {
-      full = sound table name v x graphs quiet made ordered;
+      full = sound table name v x (graphs nets ends) quiet made ordered;
       placed = placed table name v x made (are_placed table accepted name);
     }
 
     chart_weighs : TableTermsAreLight → weight x ≤ counted_size table name
-    chart_weighs laws = laws table name v x graphs made (few_to table accepted.charts accepted.gates EXPANDED_NESTING name there)
+    chart_weighs laws = laws table name v x (graphs nets ends) made (few_to table accepted.charts accepted.gates EXPANDED_NESTING name there)
 
     chart_light : TableTermsAreLight → weight x ≤ EXPANDED_SIZE
     chart_light laws = below (weight x) (counted_size table name) EXPANDED_SIZE (chart_weighs laws) small
 
-pub have_terms : EndsAreFound → TableTermsMean → TableTermsAreSound → TableTermsArePlaced → TableTermsAreLight → ChartsHaveTerms
-have_terms found mean sound placed light = record {
+pub have_terms : EndsAreFound → NetsAreWhole → WalksEnd → TableTermsMean → TableTermsAreSound → TableTermsArePlaced → TableTermsAreLight → ChartsHaveTerms
+have_terms found nets ends mean sound placed light = record {
   one = one_term;
   room = λ table name chart is accepted. has_room table accepted name;
-  means = λ table name chart v x is accepted made. chart_means table name chart is accepted v x made found mean;
-  sound = λ table name chart v x is accepted made. chart_sound table name chart is accepted v x made found sound placed;
-  weighs = λ table name chart v x is accepted made. chart_weighs table name chart is accepted v x made light;
-  light = λ table name chart v x is accepted made. chart_light table name chart is accepted v x made light;
+  graphs = λ table name chart is accepted. graphs table name chart is accepted nets ends;
+  means = λ table name chart v x is accepted made. chart_means table name chart is accepted nets ends v x made found mean;
+  sound = λ table name chart v x is accepted made. chart_sound table name chart is accepted nets ends v x made found sound placed;
+  weighs = λ table name chart v x is accepted made. chart_weighs table name chart is accepted nets ends v x made light;
+  light = λ table name chart v x is accepted made. chart_light table name chart is accepted nets ends v x made light;
 }
 
 known : ChartsHaveTerms → (table : Table) (name : List ℕ) (chart : ChartEntry) (v : NetsValue) (x : Tree) → chart_at table name ≡ Some chart → IsAcceptedTable table → IsTermOf table name v x → IsKnown table name v x

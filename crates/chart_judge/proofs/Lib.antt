@@ -2,6 +2,7 @@ pub mod TableEntries
 mod NamedBodies
 mod FreeEnds
 pub mod WholeTables
+mod EndingGraphs
 mod NestedTables
 mod LevelPairs
 mod FewTables

@@ -1,13 +1,14 @@
--- The bodies of the charts that are there, in a table of accepted charts.
-use Rattle.std.specs.Prelude.{ℕ, zero, suc, List, [], ◌∷◌, ◌++◌, Some, map}
-use Rattle.std.proofs.Common.{◌≡◌, ◌∙◌, refl, sym, ap, subst}
-use Rattle.gate_ends.specs.FoundEnds.{AreAll, level_names}
+-- The contents of the charts that are there, in a table of accepted charts.
+use Rattle.std.specs.Prelude.{ℕ, zero, suc, List, [], ◌∷◌, ◌++◌, Some, map, Option}
+use Rattle.std.proofs.Common.{◌≡◌}
+use Rattle.gate_ends.specs.FoundEnds.{AreAll}
 use Rattle.gate_ends.specs.LevelGates.{items_in}
 use Rattle.gate_rules.specs.GateLaws.{HasGates}
-use Rattle.msc_acceptance.specs.AcceptedCharts.{EachChart, HasNamed, IsAcceptedChart, IsThereTo, content_levels, content_names, named_charts}
+use Rattle.msc_acceptance.specs.AcceptedCharts.{EachChart, HasNamed, IsAcceptedChart, IsAcceptedContent, IsThereTo, content_levels, content_names, named_charts, used_refinements}
+use Rattle.msc_meaning.specs.BodyLevels.{BodyLevel, EachLevel}
 use Rattle.msc_meaning.specs.Bodies.{Body}
-use Rattle.msc_meaning.specs.BodyLevels.{BodyLevel, EachLevel, body_levels}
-use Rattle.msc_meaning.specs.Tables.{ChartEntry, Table, chart_at, body_at, body_in, Woven, Basic, Refinement, refinements}
+use Rattle.msc_meaning.specs.Tables.{ChartEntry, Table, body_in, chart_at, Woven, Refinement}
+use Rattle.msc_tree.specs.declared.chart.Decl.{Decl}
 use Rattle.chart_judge.proofs.TableEntries.{entry_has}
 
 abbrev pub IsGatedLevel : Table → BodyLevel → Type 0
@@ -15,6 +16,10 @@ IsGatedLevel table l = HasGates table (items_in l.body)
 
 abbrev pub refining_names : List Refinement → List (List ℕ)
 refining_names rs = map (λ (r : Refinement). r.chart) rs
+
+-- the body of a chart of that content, if it is a basic one
+abbrev pub content_body : List ℕ → List Decl → Woven → Option Body
+content_body name decls w = body_in (Some (record { name = name; decls = decls; content = w }))
 
 -- ---- names of two lists
 
@@ -43,36 +48,26 @@ there_deeper table (suc depth) name h = record {
   named = all_turned (IsThereTo table depth) (IsThereTo table (suc depth)) (there_deeper table depth) (named_charts h.chart) h.named;
 }
 
--- its body; what it references is there, and what refines its instances
-pub record HasBody (table : Table) (IsThere : List ℕ → Type 0) (name : List ℕ) : Type 0 where
+-- its content; what it references is there, and what refines its instances
+pub record HasContent (table : Table) (IsThere : List ℕ → Type 0) (name : List ℕ) : Type 0 where
   pub chart : ChartEntry
   pub is : chart_at table name ≡ Some chart
-  pub accepted : IsAcceptedChart chart
-  pub at : body_at table name ≡ Some accepted.body
-  pub gated : EachLevel (IsGatedLevel table) (body_levels accepted.body)
-  pub named : AreAll IsThere (level_names accepted.body)
-  pub refining : AreAll IsThere (refining_names (refinements chart.decls))
-
--- the body of a basic chart is what it is found by
-pub content_body : (c : ChartEntry) (b : Body) → c.content ≡ Basic b → body_in (Some c) ≡ Some b
-content_body c b is = subst (λ (w : Woven). body_in (Some (record { name = c.name; decls = c.decls; content = w })) ≡ Some b) (sym is) refl
+  pub accepted : IsAcceptedContent chart.content
+  pub gated : EachLevel (IsGatedLevel table) (content_levels chart.content)
+  pub named : AreAll IsThere (content_names chart.content)
+  pub refining : AreAll IsThere (refining_names (used_refinements chart.decls chart.content))
 
 module _ (table : Table) (charts : EachChart IsAcceptedChart table) (gates : EachChart (λ c. EachLevel (IsGatedLevel table) (content_levels c.content)) table) where
-  pub has_body : (IsThere : List ℕ → Type 0) (name : List ℕ) → HasNamed table IsThere name → HasBody table IsThere name
-  has_body IsThere name h =
-      let a = entry_has IsAcceptedChart table name h.chart charts h.is in
-      let g = entry_has (λ c. EachLevel (IsGatedLevel table) (content_levels c.content)) table name h.chart gates h.is in
-      let refined = refining_names (refinements h.chart.decls) in
-      record {
-        chart = h.chart;
-        is = h.is;
-        accepted = a;
-        at = ap body_in h.is ∙ content_body h.chart a.body a.is;
-        gated = subst (λ (w : Woven). EachLevel (IsGatedLevel table) (content_levels w)) a.is g;
-        named = subst (λ (w : Woven). AreAll IsThere (content_names w)) a.is (all_left IsThere (content_names h.chart.content) refined h.named);
-        refining = all_right IsThere (content_names h.chart.content) refined h.named;
-      }
+  pub has_content : (IsThere : List ℕ → Type 0) (name : List ℕ) → HasNamed table IsThere name → HasContent table IsThere name
+  has_content IsThere name h = record {
+    chart = h.chart;
+    is = h.is;
+    accepted = entry_has IsAcceptedChart table name h.chart charts h.is;
+    gated = entry_has (λ c. EachLevel (IsGatedLevel table) (content_levels c.content)) table name h.chart gates h.is;
+    named = all_left IsThere (content_names h.chart.content) (refining_names (used_refinements h.chart.decls h.chart.content)) h.named;
+    refining = all_right IsThere (content_names h.chart.content) (refining_names (used_refinements h.chart.decls h.chart.content)) h.named;
+  }
 
-  -- so is the body of a chart that is there so deep
-  pub there_body : (depth : ℕ) (name : List ℕ) → IsThereTo table depth name → HasBody table (IsThereTo table depth) name
-  there_body depth name h = has_body (IsThereTo table depth) name (there_deeper table depth name h)
+  -- so is that of a chart that is there so deep
+  pub there_content : (depth : ℕ) (name : List ℕ) → IsThereTo table depth name → HasContent table (IsThereTo table depth) name
+  there_content depth name h = has_content (IsThereTo table depth) name (there_deeper table depth name h)

@@ -12,6 +12,7 @@ use Rattle.msc_meaning.specs.Meanings.{Begins, Begun, Finished}
 use Rattle.msc_meaning.specs.Tables.{ChartEntry, Table, chart_at}
 use Rattle.chart_term.specs.Terms.{Tree, weight}
 use Rattle.chart_forms.specs.TableSizes.{counted_size}
+use Rattle.table_terms.specs.SoundGraphs.{HasSoundGraphs}
 use Rattle.table_terms.specs.TableTerms.{HasRoom, IsTermOf, chart_numbering}
 use Rattle.term_meaning.specs.Meanings.{Means}
 use Rattle.term_tables.specs.NetValues.{NetsValue}
@@ -23,12 +24,13 @@ abbrev pub VerdictsAreTold : Type 0
 VerdictsAreTold = (table : Table) (name : List ℕ) (chart : ChartEntry) (v : NetsValue) (x : Tree) (budget : ℕ) (events : List LineEvent) (verdict : Verdict)
     → chart_at table name ≡ Some chart → IsAcceptedTable table → IsTermOf table name v x → residual.IsTermVerdict v x budget events verdict → Only (IsChartVerdict table name budget events) verdict
 
--- a chart has one term; for that of a chart of an accepted table there is room, it means the chart's unfoldings, finished and under way, over
+-- a chart has one term; for that of a chart of an accepted table there is room, its graphs are sound, it means the chart's unfoldings, finished and under way, over
 -- the names of the instances of the chart's expansion, is sound, and weighs no more than the size of the chart with all that it names, nor
 -- than the limit of sizes
 pub record ChartsHaveTerms : Type 0 where
   pub one : (table : Table) (name : List ℕ) (v w : NetsValue) (x y : Tree) → IsTermOf table name v x → IsTermOf table name w y → (v ≡ w) × (x ≡ y)
   pub room : (table : Table) (name : List ℕ) (chart : ChartEntry) → chart_at table name ≡ Some chart → IsAcceptedTable table → HasRoom table name
+  pub graphs : (table : Table) (name : List ℕ) (chart : ChartEntry) → chart_at table name ≡ Some chart → IsAcceptedTable table → HasSoundGraphs table name
   pub means : (table : Table) (name : List ℕ) (chart : ChartEntry) (v : NetsValue) (x : Tree) → chart_at table name ≡ Some chart → IsAcceptedTable table → IsTermOf table name v x
       → Means v (chart_numbering table name).names x (Finished table name) (Begun table name)
   pub sound : (table : Table) (name : List ℕ) (chart : ChartEntry) (v : NetsValue) (x : Tree) → chart_at table name ≡ Some chart → IsAcceptedTable table → IsTermOf table name v x → IsSoundFor v x

@@ -3,7 +3,9 @@
 ghost use Rattle.chart_judge.specs.ChartsTold.{ChartsHaveRuns, ChartsHaveTerms, VerdictsAreTold};
 ghost use Rattle.chart_judge.specs.LargestWeights.{LargestIsTold};
 
+use expanded_terms::nets_are_whole;
 use gate_ends::ends_are_found;
+use graph_rules::laws::walks_end;
 use table_terms::laws::{
     table_terms_are_light, table_terms_are_placed, table_terms_are_sound, table_terms_mean,
 };
@@ -15,6 +17,8 @@ pub fn charts_have_terms()
     ensures { ChartsHaveTerms }
 {
     ends_are_found();
+    nets_are_whole();
+    walks_end();
     table_terms_mean();
     table_terms_are_sound();
     table_terms_are_placed();

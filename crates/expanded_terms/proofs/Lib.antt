@@ -40,3 +40,4 @@ mod LightCharts
 mod WholeCharts
 mod DeeperCharts
 mod NamedEvents
+mod WholeNets

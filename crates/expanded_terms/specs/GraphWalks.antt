@@ -1,6 +1,7 @@
 -- Walks through the nets of graphs: what is asked of the term of a walk for it to mean the graph's finished walks.
-use Rattle.std.specs.Prelude.{◌≡◌, ℕ, List, ◌∷◌, None}
+use Rattle.std.specs.Prelude.{◌≡◌, ◌≤◌, ℕ, List, ◌∷◌, None, length}
 use Rattle.msc_base.specs.declared.label.LabelRef.{LabelRef}
+use Rattle.msc_base.specs.declared.limits.TheConstants.Limits.{NODE_LINES}
 use Rattle.msc_base.specs.declared.place.Place.{Place}
 use Rattle.hmsc_graph.specs.declared.shape.Shape.{Shape}
 use Rattle.hmsc_graph.specs.Nets.{IsNet}
@@ -28,3 +29,7 @@ pub record IsGraphWalk (w : Tables) (g : Shape) (nodes : List Tree) (x : Tree) :
   pub walk : IsWalkOf w g nodes x
   pub whole : IsWholeNet g
   pub leads : LeadsToEnd g
+
+-- a graph with few lines, in which no label is unknown or stands twice, has its net
+abbrev pub NetsAreWhole : Type 0
+NetsAreWhole = (g : Shape) → ((p : Place) → IsFaulty g p → ⊥) → length g.lines ≤ NODE_LINES → IsWholeNet g

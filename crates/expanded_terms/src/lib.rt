@@ -9,6 +9,7 @@ ghost use Rattle.expanded_terms.specs.ExpansionNumbers.{ExpansionsAreNumbered};
 ghost use Rattle.expanded_terms.specs.ExpandedSizes.{ExpandedTermsWeigh};
 ghost use Rattle.expanded_terms.specs.RankedTerms.{RankedExpansionsAreSound};
 ghost use Rattle.expanded_terms.specs.FewPairs.{FewPairsHaveRoom};
+ghost use Rattle.expanded_terms.specs.GraphWalks.{NetsAreWhole};
 ghost use Rattle.expanded_terms.specs.JoinProducts.{ChartsAreLight};
 ghost use Rattle.expanded_terms.specs.PlacedTerms.{EventsArePlaced};
 ghost use Rattle.expanded_terms.specs.WholeCharts.{WholeChartsAreFit};
@@ -118,4 +119,9 @@ pub fn whole_charts_are_fit()
 #[tactic(auto, using(crate::proofs::DeeperCharts::deeper_is_same))]
 pub fn deeper_is_same()
     ensures { DeeperIsSame }
+{}
+
+/// A graph with few lines, in which no label is unknown or stands twice, has its net.
+pub fn nets_are_whole()
+    ensures { NetsAreWhole }
 {}

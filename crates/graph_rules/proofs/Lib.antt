@@ -1,1 +1,2 @@
 pub mod GraphFacts
+mod EndingGraphs

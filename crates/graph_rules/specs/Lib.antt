@@ -1,3 +1,4 @@
 pub mod GraphRules
 pub mod GraphViews
 pub mod StuckLines
+pub mod EndingGraphs

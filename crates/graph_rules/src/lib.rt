@@ -4,6 +4,7 @@
 mod ends;
 mod graphs;
 mod label_faults;
+pub mod laws;
 mod lines;
 
 pub use ends::endless_line;

@@ -9,8 +9,8 @@ use Rattle.serde_json.specs.View.{items_of}
 use Rattle.serde_json.specs.Written.{compact_text, has_float, items_have_float, items_text}
 use Rattle.serde_json.proofs.OnLiterals.{serde_json_on_literals}
 use Rattle.msc_tree.specs.declared.chart.Decl.{Decl}
-use Rattle.msc_acceptance.specs.Listing.{is_graph_of, listed_of}
-use Rattle.msc_meaning.specs.Tables.{ChartEntry}
+use Rattle.chart_lists.specs.Listing.{is_graph_of, listed_of}
+use Rattle.msc_meaning.specs.Tables.{ChartEntry, Table}
 use Rattle.msc_meaning.specs.Views.{entry_view, table_view}
 use Rattle.msc_meaning.specs.declared.body.ChartEntry as code
 use Rattle.judge_report.specs.Lists.{array_data, chart_data, chart_json, chart_line, chart_list, instance_data, instance_json, instance_list, kind_word, separated}
@@ -56,33 +56,33 @@ chart_object count true name h =
     ap (λ t. codes "{\"instances\":" ++ (decimal count ++ (codes ",\"kind\":\"graph\",\"name\":" ++ (t ++ 125 ∷ [])))) (quoted_plain name h)
     ∙ ap (λ t. codes "{\"instances\":" ++ (decimal count ++ (codes ",\"kind\":\"graph\",\"name\":\"" ++ t))) (append_assoc name (34 ∷ []) (125 ∷ []))
 
-chart_shown : (c : ChartEntry) → needs_no_escape c.name ≡ true → compact_text (chart_data c) ≡ chart_json c
-chart_shown c h = chart_object (length (listed_of c)) (is_graph_of c) c.name h
+chart_shown : (table : Table) (c : ChartEntry) → needs_no_escape c.name ≡ true → compact_text (chart_data table c) ≡ chart_json table c
+chart_shown table c h = chart_object (length (listed_of table c)) (is_graph_of c) c.name h
 
 -- charts as the code has them, and as they are listed
 viewed : {X Y A : Type 0} (f : Y → A) (g : X → Y) (xs : List X) → map (λ x. f (g x)) xs ≡ map f (map g xs)
 viewed f g [] = refl
 viewed {A = A} f g (x ∷ xs) = ap (λ (ys : List A). f (g x) ∷ ys) (viewed f g xs)
 
-pub lines_shown : (charts : List code.ChartEntry) → flat_map (λ c. chart_line (entry_view c)) charts ≡ flat_map chart_line (table_view charts)
-lines_shown [] = refl
-lines_shown (c ∷ charts) = ap (λ t. chart_line (entry_view c) ++ t) (lines_shown charts)
+pub lines_shown : (table : Table) (charts : List code.ChartEntry) → flat_map (λ c. chart_line table (entry_view c)) charts ≡ flat_map (chart_line table) (table_view charts)
+lines_shown table [] = refl
+lines_shown table (c ∷ charts) = ap (λ t. chart_line table (entry_view c) ++ t) (lines_shown table charts)
 
 charts_text : (charts : List code.ChartEntry) → list_all (λ c. needs_no_escape c.name) charts ≡ true
-    → compact_text (array_data (codes "charts") (map (λ c. chart_data (entry_view c)) charts)) ++ 10 ∷ [] ≡ chart_list true (table_view charts)
+    → compact_text (array_data (codes "charts") (map (λ c. chart_data (table_view charts) (entry_view c)) charts)) ++ 10 ∷ [] ≡ chart_list true (table_view charts)
 unfolding serde_json_on_literals
 charts_text charts h =
-    ap (λ t. codes "{\"charts\":[" ++ ((t ++ 125 ∷ []) ++ 10 ∷ [])) (items_shown (λ c. chart_data (entry_view c)) (λ c. chart_json (entry_view c)) (λ c. needs_no_escape c.name) (λ c p. chart_shown (entry_view c) p) charts h)
-    ∙ ap (λ t. codes "{\"charts\":[" ++ t) (closed (separated (map (λ c. chart_json (entry_view c)) charts)))
-    ∙ ap (λ ts. codes "{\"charts\":[" ++ (separated ts ++ codes "]}\n")) (viewed chart_json entry_view charts)
+    ap (λ t. codes "{\"charts\":[" ++ ((t ++ 125 ∷ []) ++ 10 ∷ [])) (items_shown (λ c. chart_data (table_view charts) (entry_view c)) (λ c. chart_json (table_view charts) (entry_view c)) (λ c. needs_no_escape c.name) (λ c p. chart_shown (table_view charts) (entry_view c) p) charts h)
+    ∙ ap (λ t. codes "{\"charts\":[" ++ t) (closed (separated (map (λ c. chart_json (table_view charts) (entry_view c)) charts)))
+    ∙ ap (λ ts. codes "{\"charts\":[" ++ (separated ts ++ codes "]}\n")) (viewed (chart_json (table_view charts)) entry_view charts)
 
-pub charts_shown : (line : List ℕ) (value : Data) (held : List Data) (charts : List code.ChartEntry) → list_all (λ c. needs_no_escape c.name) charts ≡ true → held ≡ map (λ c. chart_data (entry_view c)) charts
-    → value ≡ array_data (codes "charts") held → line ≡ compact_text value ++ 10 ∷ [] → line ≡ chart_list true (table_view charts)
-charts_shown line value held charts h are is e =
-    e ∙ ap (λ d. compact_text d ++ 10 ∷ []) is ∙ ap (λ ds. compact_text (array_data (codes "charts") ds) ++ 10 ∷ []) are ∙ charts_text charts h
+pub charts_shown : (value : Data) (held : List Data) (charts : List code.ChartEntry) → list_all (λ c. needs_no_escape c.name) charts ≡ true → held ≡ map (λ c. chart_data (table_view charts) (entry_view c)) charts
+    → value ≡ array_data (codes "charts") held → compact_text value ++ 10 ∷ [] ≡ chart_list true (table_view charts)
+charts_shown value held charts h are is =
+    ap (λ d. compact_text d ++ 10 ∷ []) is ∙ ap (λ ds. compact_text (array_data (codes "charts") ds) ++ 10 ∷ []) are ∙ charts_text charts h
 
-pub charts_no_float : (value : Data) (held : List Data) (charts : List code.ChartEntry) → held ≡ map (λ c. chart_data (entry_view c)) charts → value ≡ array_data (codes "charts") held → has_float value ≡ false
-charts_no_float value held charts are is = rw (is, are) rw (no_float_among (λ (c : code.ChartEntry). chart_data (entry_view c)) (λ c. refl) charts) refl
+pub charts_no_float : (value : Data) (held : List Data) (charts : List code.ChartEntry) → held ≡ map (λ c. chart_data (table_view charts) (entry_view c)) charts → value ≡ array_data (codes "charts") held → has_float value ≡ false
+charts_no_float value held charts are is = rw (is, are) rw (no_float_among (λ (c : code.ChartEntry). chart_data (table_view charts) (entry_view c)) (λ c. refl) charts) refl
 
 -- ---- instances
 

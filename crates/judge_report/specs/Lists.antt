@@ -4,7 +4,7 @@ use Rattle.std.specs.Fmt.{decimal}
 use Rattle.serde_json.specs.Data.{Data, number, unsigned, string, array, object, member, no_members}
 use Rattle.serde_json.specs.View.{items_of}
 use Rattle.msc_tree.specs.declared.chart.Decl.{Decl}
-use Rattle.msc_acceptance.specs.Listing.{is_graph_of, listed_of}
+use Rattle.chart_lists.specs.Listing.{is_graph_of, listed_of}
 use Rattle.msc_meaning.specs.Tables.{ChartEntry, Table}
 
 abbrev pub kind_word : Bool → List ℕ
@@ -14,8 +14,8 @@ kind_word true = codes "graph"
 -- ---- in words: a line for each
 
 -- the name, the kind, and how many instances are listed
-abbrev pub chart_line : ChartEntry → List ℕ
-chart_line c = c.name ++ (codes " " ++ (kind_word (is_graph_of c) ++ (codes " " ++ (decimal (length (listed_of c)) ++ 10 ∷ []))))
+abbrev pub chart_line : Table → ChartEntry → List ℕ
+chart_line table c = c.name ++ (codes " " ++ (kind_word (is_graph_of c) ++ (codes " " ++ (decimal (length (listed_of table c)) ++ 10 ∷ []))))
 
 abbrev pub refined_words : Option (List ℕ) → List ℕ
 refined_words None = []
@@ -33,8 +33,8 @@ separated [] = []
 separated (text ∷ []) = text
 separated (text ∷ next ∷ more) = text ++ 44 ∷ separated (next ∷ more)
 
-abbrev pub chart_json : ChartEntry → List ℕ
-chart_json c = codes "{\"instances\":" ++ (decimal (length (listed_of c)) ++ (codes ",\"kind\":\"" ++ (kind_word (is_graph_of c) ++ (codes "\",\"name\":\"" ++ (c.name ++ codes "\"}")))))
+abbrev pub chart_json : Table → ChartEntry → List ℕ
+chart_json table c = codes "{\"instances\":" ++ (decimal (length (listed_of table c)) ++ (codes ",\"kind\":\"" ++ (kind_word (is_graph_of c) ++ (codes "\",\"name\":\"" ++ (c.name ++ codes "\"}")))))
 
 abbrev pub instance_json : Decl → List ℕ
 instance_json d = 34 ∷ (d.name ++ 34 ∷ [])
@@ -43,8 +43,8 @@ instance_json d = 34 ∷ (d.name ++ 34 ∷ [])
 
 -- the charts of an accepted document, in the order of the text
 abbrev pub chart_list : Bool → Table → List ℕ
-chart_list false charts = flat_map chart_line charts
-chart_list true charts = codes "{\"charts\":[" ++ (separated (map chart_json charts) ++ codes "]}\n")
+chart_list false charts = flat_map (chart_line charts) charts
+chart_list true charts = codes "{\"charts\":[" ++ (separated (map (chart_json charts) charts) ++ codes "]}\n")
 
 -- the listed instances of a chart; as JSON their names alone
 abbrev pub instance_list : Bool → List Decl → List ℕ
@@ -53,9 +53,9 @@ instance_list true listed = codes "{\"instances\":[" ++ (separated (map instance
 
 -- ---- the objects, as data
 
-abbrev pub chart_data : ChartEntry → Data
-chart_data c =
-    object (member (codes "instances") (number (unsigned (length (listed_of c)))) (member (codes "kind") (string (kind_word (is_graph_of c))) (member (codes "name") (string c.name) no_members)))
+abbrev pub chart_data : Table → ChartEntry → Data
+chart_data table c =
+    object (member (codes "instances") (number (unsigned (length (listed_of table c)))) (member (codes "kind") (string (kind_word (is_graph_of c))) (member (codes "name") (string c.name) no_members)))
 
 abbrev pub instance_data : Decl → Data
 instance_data d = string d.name

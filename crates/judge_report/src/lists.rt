@@ -1,15 +1,16 @@
 //! The lists of charts and of instances: for the command `list` of msc_cmd.
 
-ghost use Rattle.std.specs.Prelude.{◌≡◌, ◌++◌, IfOk, OnOk, IsOk, codes, flat_map, map, true};
+ghost use Rattle.std.specs.Prelude.{length, ◌≡◌, ◌++◌, IfOk, OnOk, IsOk, codes, flat_map, map, true};
 ghost use Rattle.std.specs.List.{list_all};
 ghost use Rattle.serde_json.specs.View.{view};
-ghost use Rattle.msc_acceptance.specs.Listing.{is_graph_of};
+ghost use Rattle.chart_lists.specs.Listing.{is_graph_of, listed_of};
 ghost use Rattle.msc_meaning.specs.Views.{entry_view, table_view};
 ghost use Rattle.judge_report.specs.Lists.{array_data, chart_data, chart_line, chart_list, instance_data, instance_line, instance_list, kind_word, refined_words};
 ghost use Rattle.judge_report.specs.Texts.{needs_no_escape};
 
 use crate::lines::line_of_value;
-use msc_acceptance::{Accepted, is_graph, listed_count};
+use chart_lists::{is_graph, listed_count};
+use msc_acceptance::Accepted;
 use msc_base::{Name, NoMemory, Text};
 use msc_meaning::ChartEntry;
 use msc_tree::{Decl, DeclList};
@@ -35,25 +36,38 @@ fn text_of(name: &Name) -> &str
     }
 }
 
-/// Appends the line of a chart.
-fn push_chart(alloc: Global, chart: &ChartEntry, bytes: &mut Vec<u8>) -> Result<(), AllocError>
-    ensures { OnOk result (bytes.new.items ≡ bytes.old.items ++ chart_line (entry_view chart.now)) }
+/// How many instances of a chart of the document are listed.
+fn count_of(alloc: Global, doc: &Accepted, chart: &ChartEntry) -> Result<usize, NoMemory>
+    ensures { IfOk result (λ count. count ≡ length (listed_of (table_view doc.now) (entry_view chart.now))) }
+{
+    listed_count(alloc, doc.table(), chart)
+}
+
+/// Appends the line of a chart of a document.
+fn push_chart(
+    alloc: Global,
+    doc: &Accepted,
+    chart: &ChartEntry,
+    bytes: &mut Vec<u8>,
+) -> Result<(), NoMemory>
+    ensures { OnOk result (bytes.new.items ≡ bytes.old.items ++ chart_line (table_view doc.now) (entry_view chart.now)) }
 {
     let kind = kind_of(chart);
-    let count = listed_count(chart);
+    let count = count_of(alloc, doc, chart)?;
     let rest = format!(in alloc; " {kind} {count}\n")?;
     bytes.extend_from_slice(chart.name.bytes())?;
-    bytes.extend_from_slice(rest.as_bytes())
+    bytes.extend_from_slice(rest.as_bytes())?;
+    Ok(())
 }
 
 #[tactic(auto, using(crate::proofs::ListTexts::more_items))]
-/// The lines of the charts.
-fn chart_lines(alloc: Global, charts: &[ChartEntry]) -> Result<Vec<u8>, AllocError>
-    ensures { IfOk result (λ bytes. bytes.items ≡ flat_map (λ c. chart_line (entry_view c)) charts.now) }
+/// The lines of charts of a document.
+fn chart_lines(alloc: Global, doc: &Accepted, charts: &[ChartEntry]) -> Result<Vec<u8>, NoMemory>
+    ensures { IfOk result (λ bytes. bytes.items ≡ flat_map (λ c. chart_line (table_view doc.now) (entry_view c)) charts.now) }
 {
     let mut bytes = Vec::new(alloc);
     for chart in charts {
-        push_chart(alloc, chart, &mut bytes)?;
+        push_chart(alloc, doc, chart, &mut bytes)?;
     }
     Ok(bytes)
 }
@@ -93,25 +107,30 @@ fn instance_lines(alloc: Global, listed: &[Decl]) -> Result<Vec<u8>, AllocError>
     Ok(bytes)
 }
 
-/// The object that tells a chart.
-fn chart_value(alloc: Global, chart: &ChartEntry) -> Result<Value, AllocError>
-    ensures value { IfOk result (λ v. view v ≡ chart_data (entry_view chart.now)) }
+/// The object that tells a chart of a document.
+fn chart_value(alloc: Global, doc: &Accepted, chart: &ChartEntry) -> Result<Value, NoMemory>
+    ensures value { IfOk result (λ v. view v ≡ chart_data (table_view doc.now) (entry_view chart.now)) }
     ensures plain { needs_no_escape chart.now.name ≡ true }
 {
     let name = text_of(&chart.name);
     let kind = kind_of(chart);
-    let count = listed_count(chart);
-    json!(in alloc; {"instances": count, "kind": kind, "name": name})
+    let count = count_of(alloc, doc, chart)?;
+    let value = json!(in alloc; {"instances": count, "kind": kind, "name": name})?;
+    Ok(value)
 }
 
-/// The objects that tell the charts.
-fn chart_values(alloc: Global, charts: &[ChartEntry]) -> Result<Vec<Value>, AllocError>
-    ensures values { IfOk result (λ values. map view values.items ≡ map (λ c. chart_data (entry_view c)) charts.now) }
+/// The objects that tell charts of a document.
+fn chart_values(
+    alloc: Global,
+    doc: &Accepted,
+    charts: &[ChartEntry],
+) -> Result<Vec<Value>, NoMemory>
+    ensures values { IfOk result (λ values. map view values.items ≡ map (λ c. chart_data (table_view doc.now) (entry_view c)) charts.now) }
     ensures plain { IsOk result → list_all (λ c. needs_no_escape c.name) charts.now ≡ true }
 {
     let mut values = Vec::new(alloc);
     for chart in charts {
-        values.push(chart_value(alloc, chart)?)?;
+        values.push(chart_value(alloc, doc, chart)?)?;
     }
     Ok(values)
 }
@@ -150,17 +169,16 @@ fn instances_value(alloc: Global, values: Vec<Value>) -> Result<Value, AllocErro
     json!(in alloc; {"instances": values})
 }
 
-#[tactic(auto, using(crate::proofs::ListTexts::charts_no_float, crate::proofs::ListTexts::charts_shown, crate::proofs::ListTexts::lines_shown))]
 /// The list of a document's charts: a line for each, or as JSON if that is asked.
 pub fn chart_list_text(alloc: Global, doc: &Accepted, json: bool) -> Result<Text, NoMemory>
     ensures { IfOk result (λ text. text ≡ chart_list json (table_view doc.now)) }
 {
     if json {
-        let values = chart_values(alloc, doc.as_slice())?;
+        let values = chart_values(alloc, doc, doc.as_slice())?;
         let value = charts_value(alloc, values)?;
         line_of_value(alloc, &value)
     } else {
-        let bytes = chart_lines(alloc, doc.as_slice())?;
+        let bytes = chart_lines(alloc, doc, doc.as_slice())?;
         Ok(Text::from_vec(bytes))
     }
 }

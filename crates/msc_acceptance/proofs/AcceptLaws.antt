@@ -23,7 +23,7 @@ use Rattle.msc_acceptance.specs.Acceptance.{Breaks, BreaksOf, HasFault, IsAccept
 use Rattle.msc_acceptance.specs.ChartFaults.{CrossesAt, IsAloneAt, IsCyclicAt}
 use Rattle.msc_acceptance.proofs.GroupLaws.{one_best}
 use Rattle.graph_rules.specs.GraphRules.{labels}
-use Rattle.msc_acceptance.specs.Deciding.{AllKept, AreBuilt, IsFirstOf, body_groups, all_groups, endings, graph_groups, link_groups, table_groups, text_groups, forms, limits, names, references, sizes, parts, columns, messages, gates, decompositions, event_names, gate_groups, cycles}
+use Rattle.msc_acceptance.specs.Deciding.{AllKept, IsFirstOf, body_groups, all_groups, endings, graph_groups, link_groups, table_groups, text_groups, forms, limits, names, references, sizes, parts, columns, messages, gates, decompositions, event_names, gate_groups, cycles}
 use Rattle.msc_acceptance.specs.Rules.{InOne}
 
 -- ---- numbers and groups
@@ -213,9 +213,6 @@ are_groups = (λ r s m n. in_one NotBuilt r m ∙ sym (in_one NotBuilt s n), λ 
 
 pub none_of : (charts : List Chart) (rules : List Rule) (x : Option (Broken Rule)) → x ≡ None → IsBest number_of (BreaksOf charts) rules x → IsBest number_of (BreaksOf charts) rules None
 none_of charts rules x e h = subst (λ (o : Option (Broken Rule)). IsBest number_of (BreaksOf charts) rules o) e h
-
-pub built_of : (charts : List Chart) → AllKept (BreaksOf charts) text_groups → AreBuilt charts
-built_of charts kept = λ p h. kept.0 NotBuilt p (inl refl) h
 
 -- the first fault of these groups is that of these and more
 pub first_left : (charts : List Chart) (groups others : List (List Rule)) (fault : Broken Rule) → IsFirst number_of (BreaksOf charts) groups fault → IsFirst number_of (BreaksOf charts) (groups ++ others) fault

@@ -3,11 +3,13 @@ use Rattle.std.specs.List.{flat_map, list_any}
 use Rattle.std.specs.Str.{bytes_eq}
 use Rattle.std.proofs.Common.{◌≡◌, ◌<◌, ◌≤◌, ◌++◌, ◌⊎◌, inl, inr, ℕ, Bool, true, false, List, [], ◌∷◌, Option, None, fold, length, map, arith, refl, sym, subst, ap, ap₂, ◌∙◌}
 use Rattle.std.proofs.lemmas.Bool.{cases_lt}
-use Rattle.chart_links.specs.Links.{chart_links, linked}
+use Rattle.chart_links.specs.Links.{Link, chart_links, linked}
 use Rattle.chart_links.specs.Summaries.{Summary, summary_of}
-use Rattle.graph_rules.specs.GraphRules.{AreLabelled, BreakLabels, HasEndlessLine, HasFurtherLine, HaveFewLines, InGraphs, content_graphs, ending_graphs, labels}
+use Rattle.formed_graphs.specs.FormedGraphs.{HasFormedGraph, HaveFormedGraphs}
+use Rattle.graph_rules.specs.GraphRules.{AreLabelled, BreakLabels, HasEndlessLine, HasFurtherLine, HaveFewLines, InGraphs, content_graphs, ending_graphs, graphs_to_end, labels}
 use Rattle.graph_shapes.specs.GraphShapes.{shape_of}
 use Rattle.hmsc_graph.specs.Shapes.{IsFaulty}
+use Rattle.hmsc_graph.specs.declared.shape.Shape.{Shape}
 use Rattle.list_facts.proofs.Members.{among_either, among_left, among_right}
 use Rattle.list_facts.proofs.Reading.{some_at}
 use Rattle.msc_base.proofs.NameFacts.{any_folded}
@@ -24,6 +26,7 @@ use Rattle.msc_rules.specs.declared.rule.Rule.{Rule}
 use Rattle.msc_rules.specs.declared.rule.Rule.TheVariants.{Endless, LabelNamedTwice, Nodes, UnknownLabel}
 use Rattle.msc_tree.specs.Charts.{Chart, Content, Basic, HighLevel}
 use Rattle.msc_tree.specs.Graphs.{Graph, graph}
+use Rattle.woven_laws.specs.BuiltCharts.{IsLinked}
 use Rattle.msc_acceptance.specs.Acceptance.{BreaksOf}
 use Rattle.msc_acceptance.specs.Deciding.{AllKept, IsFirstOf, endings, graph_groups, text_groups}
 use Rattle.msc_acceptance.specs.GraphFaults.{charts_graphs, graphs_ending, is_referred, linked_names}
@@ -87,7 +90,56 @@ ending_few referred charts h = few_among (graphs_ending referred charts) (charts
 pub ending_labelled : (referred : List ℕ → Bool) (charts : List Chart) → AreLabelled (charts_graphs charts) → AreLabelled (graphs_ending referred charts)
 ending_labelled referred charts h = labelled_among (graphs_ending referred charts) (charts_graphs charts) (ending_within referred charts) h
 
+-- ---- the graphs of one chart are some of all
+
+own_within : (charts : List Chart) (c : Chart) → IsAmong charts c → (g : Graph) → IsAmong (content_graphs c.content) g → IsAmong (charts_graphs charts) g
+own_within [] c m g h = absurd m
+own_within (d ∷ charts) c (inl is) g h = among_left (content_graphs d.content) (charts_graphs charts) g (subst (λ (x : Chart). IsAmong (content_graphs x.content) g) is h)
+own_within (d ∷ charts) c (inr m) g h = among_right (content_graphs d.content) (charts_graphs charts) g (own_within charts c m g h)
+
+pub own_few : (charts : List Chart) (c : Chart) → IsAmong charts c → HaveFewLines (charts_graphs charts) → HaveFewLines (content_graphs c.content)
+own_few charts c m h = few_among (content_graphs c.content) (charts_graphs charts) (own_within charts c m) h
+
+pub own_labelled : (charts : List Chart) (c : Chart) → IsAmong charts c → AreLabelled (charts_graphs charts) → AreLabelled (content_graphs c.content)
+own_labelled charts c m h = labelled_among (content_graphs c.content) (charts_graphs charts) (own_within charts c m) h
+
+pub own_shape : (charts : List Chart) (c : Chart) → IsAmong charts c → HaveFormedGraphs charts → HasFormedGraph c.content
+own_shape [] c m h = absurd m
+own_shape (d ∷ charts) c (inl is) h = subst (λ (x : Chart). HasFormedGraph x.content) (sym is) h.0
+own_shape (d ∷ charts) c (inr m) h = own_shape charts c m h.1
+
+module _ (Has : Shape → Place → Type 0) where
+  graphs_left : (xs ys : List Graph) (q : Place) → InGraphs Has xs q → InGraphs Has (xs ++ ys) q
+  graphs_left [] ys q h = absurd h
+  graphs_left (x ∷ xs) ys q (inl h) = inl h
+  graphs_left (x ∷ xs) ys q (inr h) = inr (graphs_left xs ys q h)
+
+  graphs_right : (xs ys : List Graph) (q : Place) → InGraphs Has ys q → InGraphs Has (xs ++ ys) q
+  graphs_right [] ys q h = h
+  graphs_right (x ∷ xs) ys q h = inr (graphs_right xs ys q h)
+
+pub own_ending : (charts : List Chart) (c : Chart) → IsAmong charts c → (referred : List ℕ → Bool) (q : Place) → InGraphs HasEndlessLine (ending_graphs (referred c.name) c.content) q → InGraphs HasEndlessLine (graphs_ending referred charts) q
+own_ending [] c m referred q h = absurd m
+own_ending (d ∷ charts) c (inl is) referred q h =
+    graphs_left HasEndlessLine (ending_graphs (referred d.name) d.content) (graphs_ending referred charts) q (subst (λ (x : Chart). InGraphs HasEndlessLine (ending_graphs (referred x.name) x.content) q) is h)
+own_ending (d ∷ charts) c (inr m) referred q h = graphs_right HasEndlessLine (ending_graphs (referred d.name) d.content) (graphs_ending referred charts) q (own_ending charts c m referred q h)
+
+-- where a chart is referred to, more of its walks are to come to an end
+pub more_ending : (drawn : Graph) (a b : Bool) → (a ≡ true → b ≡ true) → (q : Place) → InGraphs HasEndlessLine (graphs_to_end a drawn) q → InGraphs HasEndlessLine (graphs_to_end b drawn) q
+more_ending drawn true true f q h = h
+more_ending drawn true false f q h = let e : false ≡ true = f refl in absurd cc
+more_ending (graph starts lines) false true f q h = inr h
+more_ending drawn false false f q h = h
+
 -- ---- names
+
+pub linked_among : (links : List Link) (name : List ℕ) → IsLinked links name → IsAmong (map linked links) name
+linked_among links name h = subst (IsAmong (map linked links)) h.is (by links h.says)
+  where
+    by : (some : List Link) → IsAmong some h.link → IsAmong (map linked some) (linked h.link)
+    by [] m = absurd m
+    by (l ∷ some) (inl is) = inl (ap linked is)
+    by (l ∷ some) (inr m) = inr (by some m)
 
 pub same_ending : (p q : List ℕ → Bool) → ((name : List ℕ) → p name ≡ q name) → (charts : List Chart) → graphs_ending p charts ≡ graphs_ending q charts
 same_ending p q same [] = refl
@@ -109,18 +161,22 @@ referred_of charts summaries table are made name =
 pub few_kept : (charts : List Chart) → AllKept (BreaksOf charts) text_groups → HaveFewLines (charts_graphs charts)
 few_kept charts kept = few_of (charts_graphs charts) (λ q h. kept.1.0 Nodes q (inr (inr (inl refl))) h)
 
-pub labels_best : (charts : List Chart) (o : Option (Broken Rule)) → IsBest number_of (BreakLabels (charts_graphs charts)) labels o → IsBest number_of (BreaksOf charts) labels o
-labels_best charts o h = best_same number_of (BreakLabels (charts_graphs charts)) (BreaksOf charts) labels o to from h
-  where
-    to : (r : Rule) (p : Place) → IsAmong labels r → BreakLabels (charts_graphs charts) r p → BreaksOf charts r p
-    to r p (inl is) b = subst (λ (x : Rule). BreaksOf charts x p) (sym is) (subst (λ (x : Rule). BreakLabels (charts_graphs charts) x p) is b)
-    to r p (inr (inl is)) b = subst (λ (x : Rule). BreaksOf charts x p) (sym is) (subst (λ (x : Rule). BreakLabels (charts_graphs charts) x p) is b)
-    to r p (inr (inr n)) b = absurd n
+-- the rules of labels of graphs are those of charts
+labels_to : (charts : List Chart) (r : Rule) (p : Place) → IsAmong labels r → BreakLabels (charts_graphs charts) r p → BreaksOf charts r p
+labels_to charts r p (inl is) b = subst (λ (x : Rule). BreaksOf charts x p) (sym is) (subst (λ (x : Rule). BreakLabels (charts_graphs charts) x p) is b)
+labels_to charts r p (inr (inl is)) b = subst (λ (x : Rule). BreaksOf charts x p) (sym is) (subst (λ (x : Rule). BreakLabels (charts_graphs charts) x p) is b)
+labels_to charts r p (inr (inr n)) b = absurd n
 
-    from : (r : Rule) (p : Place) → IsAmong labels r → BreaksOf charts r p → BreakLabels (charts_graphs charts) r p
-    from r p (inl is) b = subst (λ (x : Rule). BreakLabels (charts_graphs charts) x p) (sym is) (subst (λ (x : Rule). BreaksOf charts x p) is b)
-    from r p (inr (inl is)) b = subst (λ (x : Rule). BreakLabels (charts_graphs charts) x p) (sym is) (subst (λ (x : Rule). BreaksOf charts x p) is b)
-    from r p (inr (inr n)) b = absurd n
+labels_from : (charts : List Chart) (r : Rule) (p : Place) → IsAmong labels r → BreaksOf charts r p → BreakLabels (charts_graphs charts) r p
+labels_from charts r p (inl is) b = subst (λ (x : Rule). BreakLabels (charts_graphs charts) x p) (sym is) (subst (λ (x : Rule). BreaksOf charts x p) is b)
+labels_from charts r p (inr (inl is)) b = subst (λ (x : Rule). BreakLabels (charts_graphs charts) x p) (sym is) (subst (λ (x : Rule). BreaksOf charts x p) is b)
+labels_from charts r p (inr (inr n)) b = absurd n
+
+pub labels_kept : (charts : List Chart) → AllKept (BreaksOf charts) graph_groups → AreLabelled (charts_graphs charts)
+labels_kept charts kept = labelled_of (charts_graphs charts) (λ r p m b. kept.0 r p m (labels_to charts r p m b))
+
+pub labels_best : (charts : List Chart) (o : Option (Broken Rule)) → IsBest number_of (BreakLabels (charts_graphs charts)) labels o → IsBest number_of (BreaksOf charts) labels o
+labels_best charts o h = best_same number_of (BreakLabels (charts_graphs charts)) (BreaksOf charts) labels o (labels_to charts) (labels_from charts) h
 
 -- the earliest endless line, by the names that are known to be referred to
 pub endings_best : (charts : List Chart) (referred : List ℕ → Bool) (gs : List Graph) (o : Option Place) → ((name : List ℕ) → referred name ≡ is_referred charts name) → gs ≡ graphs_ending referred charts → IsLeast (InGraphs HasEndlessLine gs) o

@@ -8,7 +8,7 @@ use Rattle.gate_rules.specs.declared.faults.GateRule.{GateRule}
 use Rattle.gate_rules.specs.declared.faults.GateRule.TheVariants as gate
 use Rattle.msc_acceptance.proofs.GatePlaces.{table_gates}
 use Rattle.msc_acceptance.specs.Acceptance.{BreaksOf}
-use Rattle.msc_acceptance.specs.AcceptedCharts.{EachChart, IsThereTo, content_levels, content_names}
+use Rattle.msc_acceptance.specs.AcceptedCharts.{EachChart, IsThereTo, content_levels, content_names, used_refinements}
 use Rattle.msc_acceptance.specs.Deciding.{AllKept, table_groups}
 use Rattle.msc_base.specs.Orders.{Among, first, later}
 use Rattle.msc_base.specs.declared.limits.TheConstants.Limits.{EXPANDED_NESTING}
@@ -17,7 +17,7 @@ use Rattle.msc_instances.specs.Instances.{instances}
 use Rattle.msc_meaning.specs.Views.{table_view}
 use Rattle.msc_meaning.specs.declared.body.ChartEntry as code
 use Rattle.msc_meaning.specs.BodyLevels.{EachLevel}
-use Rattle.msc_meaning.specs.Tables.{ChartEntry, Table, Woven, Basic, HighLevel, Refinement, body_in, refinements}
+use Rattle.msc_meaning.specs.Tables.{ChartEntry, Table, Woven, Basic, HighLevel, Refinement, body_in}
 use Rattle.msc_meaning.specs.WovenTables.{AreEntriesOf}
 use Rattle.msc_rules.specs.declared.rule.Rule.TheVariants.{GateOnLoop, GateSplit, GateTwice, GateWays, NoGate}
 use Rattle.msc_tree.specs.Charts.{Chart}
@@ -42,7 +42,7 @@ pub there_goes : (table : Table) (depth : ℕ) (name : List ℕ) → IsThereTo t
 there_goes table zero name h = h
 there_goes table (suc depth) name h =
     subst (λ o. AreAll (GoesTo table depth) (body_names o)) (sym (ap body_in h.is))
-    (named_body (GoesTo table depth) h.chart h.chart.content refl (all_turned (IsThereTo table depth) (GoesTo table depth) (there_goes table depth) (content_names h.chart.content) (all_left (IsThereTo table depth) (content_names h.chart.content) (map (λ (r : Refinement). r.chart) (refinements h.chart.decls)) h.named)))
+    (named_body (GoesTo table depth) h.chart h.chart.content refl (all_turned (IsThereTo table depth) (GoesTo table depth) (there_goes table depth) (content_names h.chart.content) (all_left (IsThereTo table depth) (content_names h.chart.content) (map (λ (r : Refinement). r.chart) (used_refinements h.chart.decls h.chart.content)) h.named)))
 
 of_each : (P : ChartEntry → Type 0) (table : Table) → EachChart P table → (c : ChartEntry) → Among c table → P c
 of_each P (d ∷ table) h _ first = h.0

@@ -6,7 +6,6 @@ pub mod GroupLaws
 pub mod AcceptLaws
 pub mod LimitLaws
 pub mod AcceptedLaws
-pub mod ListLaws
 pub mod ChartLists
 pub mod SingleLaws
 pub mod LinkLaws

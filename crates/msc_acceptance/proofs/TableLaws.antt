@@ -3,7 +3,6 @@ use Rattle.std.proofs.Common.{◌≡◌, inl, inr, ℕ, ◌<◌, ◌+◌, List, 
 use Rattle.std.proofs.lemmas.List.{map-append, take_all, take_more}
 use Rattle.std.proofs.lemmas.Bool.{cases_lt}
 use Rattle.chart_forms.specs.LoopBounds.{HasHighBound}
-use Rattle.chart_forms.specs.NotBuilt.{IsNotBuilt}
 use Rattle.creation_rules.specs.Creating.{ChartCreatesTwice}
 use Rattle.creation_rules.specs.Placing.{ChartPlacesCreation}
 use Rattle.creation_rules.specs.Stopping.{ChartGoesOn}
@@ -11,7 +10,7 @@ use Rattle.refinement_rules.specs.Coregions.{HasLocalCoregion}
 use Rattle.general_ordering.specs.EventNames.{Unknown, Twice}
 use Rattle.level_weaving.specs.Exceptions.{IsMisplaced}
 use Rattle.msc_acceptance.proofs.WalkLaws.{part_step, walk_end}
-use Rattle.msc_acceptance.specs.ChartFaults.{CrossesAt, IsAloneAt, IsMisnamedAt}
+use Rattle.msc_acceptance.specs.ChartFaults.{CrossesAt, HasUnbuilt, IsAloneAt, IsMisnamedAt}
 use Rattle.msc_acceptance.specs.Deciding.{AreEarlier, AreFaultsIn, AreFaultsOf, AreOwnPlaces, AreOwnTexts, ArePartPlaces, AreTextPlaces, IsNextWoven, IsTakenIn, IsWhole, earlier_of}
 use Rattle.msc_acceptance.specs.Rules.{InOne}
 use Rattle.msc_acceptance.specs.declared.parts.PartPlaces.{PartPlaces}
@@ -52,7 +51,7 @@ least_all Holds list k found n h = walk_end (InOne Holds (map chart_view list)) 
 -- ---- what is read with the instances
 
 pub record AreTextsSoFar (list : List RawChart) (k : ℕ) (places : TextPlaces) : Type 0 where
-  pub not_built : LeastSoFar IsNotBuilt list k places.not_built
+  pub not_built : LeastSoFar HasUnbuilt list k places.not_built
   pub high_bound : LeastSoFar HasHighBound list k places.high_bound
   pub twice : LeastSoFar ChartNamesTwice list k places.twice
   pub undeclared : LeastSoFar ChartNamesOther list k places.undeclared
@@ -63,7 +62,7 @@ pub record AreTextsSoFar (list : List RawChart) (k : ℕ) (places : TextPlaces) 
 
 pub texts_start : (list : List RawChart) → AreTextsSoFar list 0 (record { not_built = None; high_bound = None; twice = None; undeclared = None; creation = None; child = None; behind = None; coregion = None })
 texts_start list = record {
-  not_built = narrows_start (InOne IsNotBuilt (map chart_view list));
+  not_built = narrows_start (InOne HasUnbuilt (map chart_view list));
   high_bound = narrows_start (InOne HasHighBound (map chart_view list));
   twice = narrows_start (InOne ChartNamesTwice (map chart_view list));
   undeclared = narrows_start (InOne ChartNamesOther (map chart_view list));
@@ -87,7 +86,7 @@ pub record AreEarlierTexts (a b c : TextPlaces) : Type 0 where
 pub texts_more : (list : List RawChart) (k : ℕ) (c : RawChart) (best found next : TextPlaces) → k < length list → c ≡ get_or list k c → AreOwnTexts (chart_view c) found → AreEarlierTexts best found next
     → AreTextsSoFar list k best → AreTextsSoFar list (k + 1) next
 texts_more list k c best found next low is own made h = record {
-  not_built = least_more IsNotBuilt list k c best.not_built found.not_built next.not_built low is own.not_built made.not_built h.not_built;
+  not_built = least_more HasUnbuilt list k c best.not_built found.not_built next.not_built low is own.not_built made.not_built h.not_built;
   high_bound = least_more HasHighBound list k c best.high_bound found.high_bound next.high_bound low is own.high_bound made.high_bound h.high_bound;
   twice = least_more ChartNamesTwice list k c best.twice found.twice next.twice low is own.twice made.twice h.twice;
   undeclared = least_more ChartNamesOther list k c best.undeclared found.undeclared next.undeclared low is own.undeclared made.undeclared h.undeclared;
@@ -99,7 +98,7 @@ texts_more list k c best found next low is own made h = record {
 
 pub texts_all : (list : List RawChart) (k : ℕ) (places : TextPlaces) → (k < length list → ⊥) → AreTextsSoFar list k places → AreTextPlaces (map chart_view list) places
 texts_all list k places n h = record {
-  not_built = least_all IsNotBuilt list k places.not_built n h.not_built;
+  not_built = least_all HasUnbuilt list k places.not_built n h.not_built;
   high_bound = least_all HasHighBound list k places.high_bound n h.high_bound;
   twice = least_all ChartNamesTwice list k places.twice n h.twice;
   undeclared = least_all ChartNamesOther list k places.undeclared n h.undeclared;

@@ -12,8 +12,7 @@ use Rattle.msc_tree.specs.Charts.{Chart}
 use Rattle.msc_tree.specs.Views.{chart_view}
 use Rattle.msc_tree.specs.declared.chart.RawChart.{RawChart}
 use Rattle.chart_text.specs.WellFormed.{AreAllWellFormed, IsWellFormed}
-use Rattle.chart_forms.specs.NotBuilt.{IsBuilt, IsNotBuilt}
-use Rattle.msc_acceptance.specs.Deciding.{AreBuilt, earlier_of}
+use Rattle.msc_acceptance.specs.Deciding.{earlier_of}
 use Rattle.msc_acceptance.specs.Rules.{InOne, IsFurther}
 
 pub split : (list : List RawChart) (k : ℕ) (c : RawChart) → k < length list → c ≡ get_or list k c → map chart_view (drop k list) ≡ chart_view c ∷ map chart_view (drop (k + 1) list)
@@ -90,12 +89,6 @@ pub in_one : (Holds : Chart → Place → Type 0) (charts : List Chart) (c : Cha
 in_one Holds [] c p m h = absurd m
 in_one Holds (d ∷ charts) c p (inl e) h = inl (subst (λ (x : Chart). Holds x p) e h)
 in_one Holds (d ∷ charts) c p (inr m) h = inr (in_one Holds charts c p m h)
-
-pub one_built : (charts : List Chart) (c : Chart) → AreBuilt charts → IsAmong charts c → IsBuilt c
-one_built charts c built m = λ p h. built p (in_one IsNotBuilt charts c p m h)
-
-pub chart_built : (list : List RawChart) (k : ℕ) (c : RawChart) → AreBuilt (map chart_view list) → k < length list → c ≡ get_or list k c → IsBuilt (chart_view c)
-chart_built list k c built low is = one_built (map chart_view list) (chart_view c) built (among_map list k c low is)
 
 pub one_formed : (charts : List Chart) (c : Chart) → AreAllWellFormed charts → IsAmong charts c → IsWellFormed c
 one_formed [] c h m = absurd m

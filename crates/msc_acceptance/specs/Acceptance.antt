@@ -8,7 +8,6 @@ use Rattle.msc_rules.specs.FirstFaults.{IsFirstFault, IsFaultless}
 use Rattle.msc_rules.specs.Rules.{group_of, number_of}
 use Rattle.chart_extents.specs.ExtentRules.{AreTooLarge, IsTooDeep, IsTooLarge}
 use Rattle.chart_forms.specs.LoopBounds.{HasHighBound}
-use Rattle.chart_forms.specs.NotBuilt.{IsNotBuilt}
 use Rattle.chart_links.specs.References.{LeavesUncovered, MissesChart, Recurs}
 use Rattle.chart_links.specs.Summaries.{summary_of}
 use Rattle.creation_rules.specs.Creating.{ChartCreatesTwice}
@@ -20,7 +19,7 @@ use Rattle.shared_parts.specs.PartRules.{ChartBreaksPartRule}
 use Rattle.shared_parts.specs.declared.faults.PartRule.TheVariants as part
 use Rattle.msc_meaning.specs.Tables.{Table}
 use Rattle.msc_meaning.specs.WovenTables.{IsTableOf}
-use Rattle.msc_acceptance.specs.ChartFaults.{BreaksGatesAt, BreaksRefinementAt, CrossesAt, IsAloneAt, IsCyclicAt, IsMisnamedAt}
+use Rattle.msc_acceptance.specs.ChartFaults.{BreaksGatesAt, BreaksRefinementAt, CrossesAt, HasUnbuilt, IsAloneAt, IsCyclicAt, IsMisnamedAt}
 use Rattle.gate_rules.specs.declared.faults.GateRule.TheVariants as gate
 use Rattle.general_ordering.specs.EventNames.{Unknown, Twice}
 use Rattle.refinement_rules.specs.Coregions.{HasLocalCoregion}
@@ -33,7 +32,7 @@ use Rattle.msc_acceptance.specs.SizedCharts.{OfSizes}
 
 -- the charts break the rule at that place
 abbrev pub BreaksOf : List Chart → Rule → Place → Type 0
-BreaksOf charts NotBuilt place = InOne IsNotBuilt charts place
+BreaksOf charts NotBuilt place = InOne HasUnbuilt charts place
 BreaksOf charts Charts place = IsFurther charts place
 BreaksOf charts Instances place = HasFurther [] charts place
 BreaksOf charts Nodes place = InGraphs HasFurtherLine (charts_graphs charts) place

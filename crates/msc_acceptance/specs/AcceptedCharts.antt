@@ -1,13 +1,18 @@
--- What the charts of an accepted document have as long as not all forms are built.
-use Rattle.std.specs.Prelude.{◌≡◌, ◌≤◌, ⊤, ℕ, zero, suc, List, [], ◌∷◌, ◌++◌, Some, fold, length, map}
+-- What the charts of an accepted document have.
+use Rattle.std.specs.List.{flat_map, list_any}
+use Rattle.std.specs.Prelude.{◌≡◌, ◌≤◌, ⊤, ℕ, zero, suc, Bool, List, [], ◌∷◌, ◌++◌, Some, fold, length, map}
+use Rattle.std.specs.Str.{bytes_eq}
 use Rattle.chart_cycles.specs.Cycles.{AreOrdered}
 use Rattle.chart_forms.specs.BodyEvents.{events_within}
 use Rattle.chart_forms.specs.BuiltBodies.{IsBuiltBody}
 use Rattle.chart_forms.specs.TableSizes.{counted_size}
+use Rattle.formed_graphs.specs.FormedGraphs.{IsFormedGraph}
 use Rattle.gate_ends.specs.FoundEnds.{AreAll, level_names}
 use Rattle.gate_ends.specs.LevelGates.{items_in}
 use Rattle.gate_rules.specs.GateLaws.{HasGates}
 use Rattle.general_ordering.specs.EventNames.{BreaksNameRule, Twice}
+use Rattle.graph_rules.specs.GraphRules.{AreLabelled, HasEndlessLine, HaveFewLines, InGraphs, graphs_to_end}
+use Rattle.graph_shapes.specs.GraphLists.{graphs_in}
 use Rattle.msc_base.specs.Lists.{AreDifferent}
 use Rattle.msc_base.specs.NameTables.{with_name}
 use Rattle.msc_base.specs.Orders.{Once}
@@ -18,14 +23,15 @@ use Rattle.msc_meaning.specs.BodyLevels.{BodyLevel, EachLevel, body_levels}
 use Rattle.msc_meaning.specs.Levels.{IsWovenLevel}
 use Rattle.msc_meaning.specs.Pieces.{Piece}
 use Rattle.msc_meaning.specs.Tables.{ChartEntry, Table, Woven, Basic, HighLevel, Refinement, chart_at, refinements}
-use Rattle.msc_acceptance.specs.Listing.{content_instances, cover_of}
+use Rattle.msc_tree.specs.Graphs.{Graph}
+use Rattle.msc_tree.specs.declared.chart.Decl.{Decl}
+use Rattle.woven_laws.specs.GraphNames.{graph_names}
+use Rattle.chart_lists.specs.Listing.{content_instances, cover_of}
 
 -- ---- one chart
 
--- a basic chart whose body has only forms that are built, at its instances
-pub record IsAcceptedChart (c : ChartEntry) : Type 0 where
-  pub body : Body
-  pub is : c.content ≡ Basic body
+-- a body with only forms that are built, at its instances
+pub record IsAcceptedBody (body : Body) : Type 0 where
   pub built : IsBuiltBody (cover_of body) body
   -- it is what a level is woven to
   pub pieces : List Piece
@@ -34,20 +40,47 @@ pub record IsAcceptedChart (c : ChartEntry) : Type 0 where
   pub once : Once (map (λ (n : EventNode). n.number) (events_within body))
   pub named_once : (place : Place) → BreaksNameRule Twice body place → ⊥
 
+-- a graph at which walks start, which has few lines, and each label of which is that of one line; so it is of its frames
+pub record IsAcceptedGraph (drawn : Graph) : Type 0 where
+  pub formed : IsFormedGraph drawn
+  pub few : HaveFewLines (graphs_in drawn)
+  pub labelled : AreLabelled (graphs_in drawn)
+
+abbrev pub IsAcceptedContent : Woven → Type 0
+IsAcceptedContent (Basic body) = IsAcceptedBody body
+IsAcceptedContent (HighLevel drawn) = IsAcceptedGraph drawn
+
+abbrev pub IsAcceptedChart : ChartEntry → Type 0
+IsAcceptedChart c = IsAcceptedContent c.content
+
 -- ---- charts together
 
 abbrev pub EachChart : (ChartEntry → Type 0) → Table → Type 0
 EachChart P [] = ⊤
 EachChart P (c ∷ table) = P c × EachChart P table
 
--- the charts that a chart references
+-- the charts that a chart references, or the nodes of its graph name
 abbrev pub content_names : Woven → List (List ℕ)
 content_names (Basic body) = level_names body
-content_names (HighLevel drawn) = []
+content_names (HighLevel drawn) = graph_names drawn
 
--- and those that refine its instances
+-- its decomposed instances: the heads of a high-level chart have no use
+abbrev pub used_refinements : List Decl → Woven → List Refinement
+used_refinements decls (Basic body) = refinements decls
+used_refinements decls (HighLevel drawn) = []
+
+-- the charts that it names: those, and those that refine its instances
 abbrev pub named_charts : ChartEntry → List (List ℕ)
-named_charts c = content_names c.content ++ map (λ (r : Refinement). r.chart) (refinements c.decls)
+named_charts c = content_names c.content ++ map (λ (r : Refinement). r.chart) (used_refinements c.decls c.content)
+
+-- whether a chart of the table names that of the name
+abbrev pub is_named : Table → List ℕ → Bool
+is_named table name = list_any (bytes_eq name) (flat_map named_charts table)
+
+-- the graphs of a chart in which each walk is to come to an end: frames, and its own graph, where charts name it
+abbrev pub woven_ending : Bool → Woven → List Graph
+woven_ending named (Basic body) = []
+woven_ending named (HighLevel drawn) = graphs_to_end named drawn
 
 -- the chart of that name is there, and so are those that it names
 pub record HasNamed (table : Table) (IsThere : List ℕ → Type 0) (name : List ℕ) : Type 0 where
@@ -71,7 +104,7 @@ content_levels (Basic body) = body_levels body
 content_levels (HighLevel drawn) = []
 
 -- the charts are accepted one by one and have different names; each chart that is named is there, the called gates of each level have one
--- end, and each expansion has an order and is within the limits
+-- end, each expansion has an order and is within the limits, and from each line that walks reach they can come to an end, where they are to
 pub record IsAcceptedTable (table : Table) : Type 0 where
   pub charts : EachChart IsAcceptedChart table
   pub different : AreDifferent (map (λ (c : ChartEntry). c.name) table)
@@ -80,3 +113,4 @@ pub record IsAcceptedTable (table : Table) : Type 0 where
   pub gates : EachChart (λ c. EachLevel (λ l. HasGates table (items_in l.body)) (content_levels c.content)) table
   pub small : EachChart (λ c. counted_size table c.name ≤ EXPANDED_SIZE) table
   pub ordered : AreOrdered table EXPANDED_NESTING table
+  pub ending : EachChart (λ c. (place : Place) → InGraphs HasEndlessLine (woven_ending (is_named table c.name) c.content) place → ⊥) table

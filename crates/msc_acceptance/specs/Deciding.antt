@@ -17,7 +17,7 @@ use Rattle.msc_meaning.specs.Pieces.{statements_pieces}
 use Rattle.msc_meaning.specs.Tables.{Table}
 use Rattle.msc_meaning.specs.Views.{entry_view, table_view}
 use Rattle.msc_meaning.specs.WovenTables.{AreEntriesOf, IsEntryOf}
-use Rattle.msc_acceptance.specs.ChartFaults.{CrossesAt, IsAloneAt, IsMisnamedAt}
+use Rattle.msc_acceptance.specs.ChartFaults.{CrossesAt, HasUnbuilt, IsAloneAt, IsMisnamedAt}
 use Rattle.gate_rules.specs.GateRules.{BreaksGateRule}
 use Rattle.gate_rules.specs.declared.faults.GatePlaces.{GatePlaces}
 use Rattle.gate_rules.specs.declared.faults.GateRule.TheVariants as gate
@@ -29,7 +29,6 @@ use Rattle.chart_cycles.specs.Cycles.{AreOrdered, TellCycles}
 use Rattle.chart_extents.specs.Extents.{IsExtentOf, Sized}
 use Rattle.chart_extents.specs.declared.extent.Extent.{Extent}
 use Rattle.chart_forms.specs.LoopBounds.{HasHighBound}
-use Rattle.chart_forms.specs.NotBuilt.{IsNotBuilt}
 use Rattle.chart_forms.specs.TiedTexts.{is_tied_text}
 use Rattle.chart_text.specs.Texts.{chart_text}
 use Rattle.creation_rules.specs.Creating.{ChartCreatesTwice}
@@ -137,10 +136,6 @@ abbrev pub IsFirstOf : List Chart → List (List Rule) → Option (Broken Rule) 
 IsFirstOf charts groups None = AllKept (BreaksOf charts) groups
 IsFirstOf charts groups (Some fault) = IsFirst number_of (BreaksOf charts) groups fault
 
--- every form of the charts is built
-abbrev pub AreBuilt : List Chart → Type 0
-AreBuilt charts = (p : Place) → InOne IsNotBuilt charts p → ⊥
-
 -- ---- rules that a chart breaks by itself
 
 -- the earlier of two places
@@ -150,7 +145,7 @@ earlier_of a (Some p) = earliest a p
 
 -- the earliest places at which a chart breaks the rules that are read with its instances
 pub record AreOwnTexts (chart : Chart) (places : TextPlaces) : Type 0 where
-  pub not_built : IsLeast (IsNotBuilt chart) places.not_built
+  pub not_built : IsLeast (HasUnbuilt chart) places.not_built
   pub high_bound : IsLeast (HasHighBound chart) places.high_bound
   pub twice : IsLeast (ChartNamesTwice chart) places.twice
   pub undeclared : IsLeast (ChartNamesOther chart) places.undeclared
@@ -161,7 +156,7 @@ pub record AreOwnTexts (chart : Chart) (places : TextPlaces) : Type 0 where
 
 -- the earliest places at which one of the charts breaks them
 pub record AreTextPlaces (charts : List Chart) (places : TextPlaces) : Type 0 where
-  pub not_built : IsLeast (InOne IsNotBuilt charts) places.not_built
+  pub not_built : IsLeast (InOne HasUnbuilt charts) places.not_built
   pub high_bound : IsLeast (InOne HasHighBound charts) places.high_bound
   pub twice : IsLeast (InOne ChartNamesTwice charts) places.twice
   pub undeclared : IsLeast (InOne ChartNamesOther charts) places.undeclared
@@ -221,7 +216,7 @@ pub record AreFaultsOf (chart : Chart) (faults : BodyFaults) : Type 0 where
 abbrev pub IsBarred : Chart → BodyFaults → Type 0
 IsBarred chart faults = (IsWhole faults → ⊥) × AreFaultsOf chart faults
 
--- what one chart, whose forms are built, is woven to: its entry, with the places where this breaks a rule; or where it breaks a rule so that
+-- what one chart is woven to: its entry, with the places where this breaks a rule; or where it breaks a rule so that
 -- it has none
 abbrev pub IsNextWoven : Chart → ChartResult → Type 0
 IsNextWoven chart (one.Entry entry faults) = IsEntryOf (instances chart) chart (entry_view entry) × AreFaultsOf chart faults

@@ -3,7 +3,6 @@ pub mod Rules
 pub mod GraphFaults
 pub mod SizedCharts
 pub mod Acceptance
-pub mod Listing
 pub mod AcceptedCharts
 pub mod Deciding
 pub mod SingleItems

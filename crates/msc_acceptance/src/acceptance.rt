@@ -2,6 +2,7 @@
 
 ghost use Rattle.std.specs.Prelude.{◌≡◌, IfOk, IsErrOf};
 ghost use Rattle.chart_text.specs.WellFormed.{AreAllWellFormed};
+ghost use Rattle.formed_graphs.specs.FormedGraphs.{HaveFormedGraphs};
 ghost use Rattle.msc_rules.specs.declared.rule.Rule.{Rule};
 ghost use Rattle.msc_meaning.specs.Tables.{Table};
 ghost use Rattle.msc_meaning.specs.Views.{table_view};
@@ -21,9 +22,10 @@ use std::alloc::Global;
 use woven_laws::laws::{built_charts_are_known, woven_charts_are_known};
 
 /// The table of the document's charts, or the first rule that it breaks, and where. The document is one that was read, so that the text of
-/// its charts is well formed. What a chart was read to is dropped as soon as the chart is woven.
+/// its charts is well formed, and so are their graphs. What a chart was read to is dropped as soon as the chart is woven.
 pub fn accept(alloc: Global, raw: RawDocument) -> Result<Accepted, DocFault>
-    requires { AreAllWellFormed (document_view raw).charts }
+    requires formed { AreAllWellFormed (document_view raw).charts }
+    requires graphs { HaveFormedGraphs (document_view raw).charts }
     ensures ok { IfOk result (λ accepted. IsAccepted (document_view raw) (table_view accepted)) }
     ensures only { IfOk result (λ accepted. (other : Table) → IsTableOf instances (document_view raw) other → table_view accepted ≡ other) }
     ensures charts { IfOk result (λ accepted. IsAcceptedTable (table_view accepted)) }

@@ -8,6 +8,7 @@ ghost use Rattle.msc_meaning.specs.Tables.{chart_at};
 ghost use Rattle.msc_meaning.specs.Views.{entry_view, table_view};
 
 use gate_tables::GateTables;
+use level_surroundings::ChartTable;
 use msc_base::{NameTable, Place};
 use msc_meaning::ChartEntry;
 use msc_rules::Rule;
@@ -81,6 +82,18 @@ impl Accepted {
         ensures { AreGatesOf (table_view self.now) result.now }
     {
         &self.gates
+    }
+
+    /// The charts, as they are found by their names.
+    pub fn table(&self) -> ChartTable<'_>
+        ensures charts { result.charts.now ≡ self.now }
+        ensures named { HasNames result.charts.now result.names.now }
+    {
+        ChartTable {
+            charts: self.as_slice(),
+            names: self.names(),
+            gates: self.gates(),
+        }
     }
 
     /// How many charts there are. It takes no memory.

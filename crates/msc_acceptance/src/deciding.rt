@@ -1,11 +1,11 @@
 //! The rules group by group, up to the first that is broken; else the table. For `acceptance` alone.
 
 ghost use Rattle.std.specs.Prelude.{◌≡◌, ◌++◌, IfOk, List, None, map};
-ghost use Rattle.chart_forms.specs.NotBuilt.{IsNotBuilt};
 ghost use Rattle.chart_text.specs.WellFormed.{AreAllWellFormed};
 ghost use Rattle.msc_rules.specs.FirstFaults.{IsBest};
 ghost use Rattle.msc_rules.specs.Rules.{number_of};
 ghost use Rattle.msc_acceptance.specs.Acceptance.{BreaksOf};
+ghost use Rattle.msc_acceptance.specs.ChartFaults.{HasUnbuilt};
 ghost use Rattle.msc_acceptance.specs.Deciding.{AreFaultsIn, AreTextPlaces, HaveExtents, IsDecided, IsFirstOf, IsReading, IsSettled, IsWhole, body_groups, creations, forms, graph_groups, limits, names, parts, table_groups, text_groups};
 ghost use Rattle.msc_acceptance.specs.Rules.{InOne};
 ghost use Rattle.msc_acceptance.specs.SizedCharts.{OfSizes};
@@ -43,7 +43,7 @@ pub enum Decision {
 
 /// The first form that isn't built.
 fn form_fault(not_built: Option<Place>) -> Option<Broken<Rule>>
-    ensures { (charts : List Chart) → IsLeast (InOne IsNotBuilt charts) not_built → IsBest number_of (BreaksOf charts) forms result }
+    ensures { (charts : List Chart) → IsLeast (InOne HasUnbuilt charts) not_built → IsBest number_of (BreaksOf charts) forms result }
 {
     broken_at(Rule::NotBuilt, not_built)
 }

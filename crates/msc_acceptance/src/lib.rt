@@ -10,7 +10,6 @@ mod gates;
 mod graphs;
 mod limits;
 mod links;
-mod listing;
 mod names;
 mod parts;
 mod reading;
@@ -21,4 +20,3 @@ mod walks;
 
 pub use acceptance::accept;
 pub use accepted::{Accepted, DocFault};
-pub use listing::{is_graph, listed_count, listed_of};

@@ -2,10 +2,13 @@
 
 ghost use Rattle.std.specs.Prelude.{◌≡◌, IfOk, None, map};
 ghost use Rattle.chart_forms.specs.TiedTexts.{is_tied_text};
+ghost use Rattle.chart_text.specs.PassageViews.{text_view};
 ghost use Rattle.chart_text.specs.Texts.{chart_text as text_of};
+ghost use Rattle.msc_acceptance.specs.ChartFaults.{HasUnbuilt};
 ghost use Rattle.msc_acceptance.specs.Deciding.{AreOwnTexts, AreTextPlaces, earlier_of};
 ghost use Rattle.msc_acceptance.specs.RefinedTexts.{is_refined_chart};
 ghost use Rattle.msc_acceptance.specs.SingleItems.{is_single_chart};
+ghost use Rattle.msc_base.specs.Places.{IsLeast};
 ghost use Rattle.msc_instances.specs.Instances.{instances};
 ghost use Rattle.msc_tree.specs.Charts.{Chart};
 ghost use Rattle.msc_tree.specs.Views.{chart_view};
@@ -14,11 +17,11 @@ use crate::refinements::is_refined;
 use crate::singles::holds_singles;
 use crate::walks::earlier;
 use chart_forms::{first_high_bound, first_not_built, ties_gates};
-use chart_text::chart_text;
+use chart_text::{Passage, chart_text};
 use creation_rules::{behind_stop, created_twice, misplaced_creation};
 use msc_base::{Items, Names, NoMemory, Place};
 use msc_instances::chart_names;
-use msc_tree::RawChart;
+use msc_tree::{Content, RawChart};
 use refinement_rules::local_coregion;
 use std::alloc::Global;
 
@@ -93,6 +96,21 @@ fn earlier_places(places: TextPlaces, others: TextPlaces) -> TextPlaces
     }
 }
 
+/// The earliest place of a chart, whose text that is, at which a form stands that isn't built.
+fn first_unbuilt(
+    alloc: Global,
+    chart: &RawChart,
+    text: &[Passage<'_>],
+) -> Result<Option<Place>, NoMemory>
+    requires { text_view text.now ≡ text_of (chart_view chart.now) }
+    ensures { IfOk result (IsLeast (HasUnbuilt (chart_view chart.now))) }
+{
+    match &chart.content {
+        Content::Events(_) => first_not_built(alloc, chart, text),
+        Content::Graph(_) => Ok(None),
+    }
+}
+
 /// What is read of a chart.
 fn read_chart(alloc: Global, chart: &RawChart) -> Result<ChartText, NoMemory>
     ensures names { IfOk result (λ text. text.names ≡ instances (chart_view chart.now)) }
@@ -102,7 +120,7 @@ fn read_chart(alloc: Global, chart: &RawChart) -> Result<ChartText, NoMemory>
     ensures places { IfOk result (λ text. AreOwnTexts (chart_view chart.now) text.places) }
 {
     let text = chart_text(alloc, chart)?;
-    let not_built = first_not_built(alloc, chart, text.as_slice())?;
+    let not_built = first_unbuilt(alloc, chart, text.as_slice())?;
     let high_bound = first_high_bound(alloc, chart, text.as_slice())?;
     let named = chart_names(alloc, chart, text.as_slice())?;
     let creation = misplaced_creation(alloc, chart, text.as_slice())?;

@@ -1,14 +1,14 @@
 //! The table of charts, each woven, with the earliest places at which what they are woven to breaks a rule: for `deciding`.
 
-ghost use Rattle.std.specs.Prelude.{◌≡◌, IfOk, None, OnOk, Some, map};
-ghost use Rattle.chart_forms.specs.NotBuilt.{IsBuilt};
+ghost use Rattle.std.specs.Prelude.{◌≡◌, IfOk, List, None, OnOk, Some, map};
 ghost use Rattle.chart_text.specs.WellFormed.{AreAllWellFormed, IsWellFormed};
 ghost use Rattle.msc_acceptance.specs.ChartFaults.{IsBodyOf};
-ghost use Rattle.msc_acceptance.specs.Deciding.{AreBuilt, AreFaultsOf, AreWoven, IsBarred, IsNextWoven, IsTakenIn, IsWeaveFault, IsWovenTo, earlier_of};
+ghost use Rattle.msc_acceptance.specs.Deciding.{AreFaultsOf, AreWoven, IsBarred, IsNextWoven, IsTakenIn, IsWeaveFault, IsWovenTo, earlier_of};
 ghost use Rattle.msc_instances.specs.Instances.{instances};
 ghost use Rattle.msc_meaning.specs.Views.{body_view, entry_view};
 ghost use Rattle.msc_meaning.specs.WovenTables.{IsEntryOf};
 ghost use Rattle.msc_tree.specs.Charts.{Basic};
+ghost use Rattle.msc_tree.specs.Statements.{Statement as StatementValue};
 ghost use Rattle.msc_tree.specs.Views.{chart_view, statement_view};
 
 use crate::declaring::chart_decls;
@@ -19,7 +19,6 @@ use msc_base::{Names, NoMemory, Place};
 use msc_meaning::{Body, ChartEntry, EntryContent, body_levels};
 use msc_tree::{Content, RawChart, Statement};
 use std::alloc::Global;
-use woven_laws::laws::built_charts_are_known;
 
 /// What charts are woven to.
 #[derive(Drop)]
@@ -152,28 +151,37 @@ fn woven_statements(
     }
 }
 
-/// What a chart, whose instances `names` are, is woven to.
-fn result_of(alloc: Global, chart: &RawChart, names: &Names) -> Result<ChartResult, NoMemory>
-    requires formed { IsWellFormed (chart_view chart.now) }
-    requires built { IsBuilt (chart_view chart.now) }
-    requires names { names.now ≡ instances (chart_view chart.now) }
-    ensures { IfOk result (IsNextWoven (chart_view chart.now)) }
+/// The entry of a high-level chart, which keeps its graph.
+fn drawn_result(alloc: Global, chart: RawChart) -> Result<ChartResult, NoMemory>
+    requires { (held : List StatementValue) → (chart_view chart).content ≡ Basic held → ⊥ }
+    ensures { IfOk result (IsNextWoven (chart_view chart)) }
 {
-    built_charts_are_known();
-    match &chart.content {
-        Content::Events(list) => woven_statements(alloc, chart, names, list.as_slice()),
-        Content::Graph(_) => unreachable!(),
+    let decls = chart_decls(alloc, &chart)?;
+    let RawChart { name, content, .. } = chart;
+    match content {
+        Content::Events(_held) => unreachable!(),
+        Content::Graph(graph) => {
+            let content = EntryContent::Graph(graph);
+            let entry = ChartEntry {
+                name,
+                decls,
+                content,
+            };
+            Ok(ChartResult::Entry(entry, barring(None, None)))
+        }
     }
 }
 
-/// The same; the chart is dropped.
+/// What a chart, whose instances `names` are, is woven to. The chart is dropped, but for its graph.
 fn woven(alloc: Global, chart: RawChart, names: &Names) -> Result<ChartResult, NoMemory>
     requires formed { IsWellFormed (chart_view chart) }
-    requires built { IsBuilt (chart_view chart) }
     requires names { names.now ≡ instances (chart_view chart) }
     ensures { IfOk result (IsNextWoven (chart_view chart)) }
 {
-    result_of(alloc, &chart, names)
+    if let Content::Events(list) = &chart.content {
+        return woven_statements(alloc, &chart, names, list.as_slice());
+    }
+    drawn_result(alloc, chart)
 }
 
 /// Takes in what one more chart is woven to: the earlier places of both, and its entry, where it has one.
@@ -190,14 +198,13 @@ fn take_in(made: &mut Weaving, chart: ChartResult) -> Result<(), NoMemory>
     Ok(())
 }
 
-/// What the charts, whose instances `lists` are, are woven to. Each is dropped as soon as it is woven.
+/// What the charts, whose instances `lists` are, are woven to. Each is dropped as soon as it is woven, but for its graph.
 pub fn woven_charts(
     alloc: Global,
     charts: Vec<RawChart>,
     lists: &[Names],
 ) -> Result<Weaving, NoMemory>
     requires formed { AreAllWellFormed (map chart_view charts.items) }
-    requires built { AreBuilt (map chart_view charts.items) }
     requires lists { lists.now ≡ map instances (map chart_view charts.items) }
     ensures { IfOk result (AreWoven (map chart_view charts.items)) }
 {

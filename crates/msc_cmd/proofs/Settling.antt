@@ -16,6 +16,7 @@ use Rattle.msc_cmd.specs.declared.document_text.DocumentText.TheVariants.{Read}
 use Rattle.msc_cmd.specs.declared.document_text.DocumentText.TheVariants as text
 use Rattle.msc_cmd.specs.DocumentTexts.{IsOnlyText, IsOnlyTextFault, IsTheText}
 use Rattle.msc_document.specs.FormedDocuments.{DocumentsAreWellFormed}
+use Rattle.msc_document.specs.FormedGraphs.{GraphsAreFormed}
 use Rattle.msc_tree.specs.Views.{document_view}
 use Rattle.msc_cmd.specs.Documents.{HasDocumentFault, of_text, of_charts, IsOnlyDocument, IsOnlyFault, IsTheDocument, AcceptsAlone, RefusesAlone, ComesTo}
 use Rattle.msc_cmd.specs.Intakes.{IsFormedText, IsTextOf, IsDocumentOf}
@@ -62,10 +63,10 @@ settled_read bytes tree (Ok (Charts charts)) h t = only_accepted bytes tree (tab
 settled_read bytes tree (Ok (Refused broken place)) h t = only_refused bytes tree broken place t h
 settled_read bytes tree (Err e) h t = tt
 
--- the charts of a text that was taken are well formed
-pub formed_text : DocumentsAreWellFormed → (files : Option Files) (name : List ℕ) (text : DocumentText) → IsTextOf files name text → IsFormedText text
-formed_text law files name (Read document) t = law NESTING t.is.is.tokens (document_view document) t.is.is.reads
-formed_text law files name (text.Refused broken place) t = tt
+-- the charts of a text that was taken are well formed, and so are their graphs
+pub formed_text : DocumentsAreWellFormed → GraphsAreFormed → (files : Option Files) (name : List ℕ) (text : DocumentText) → IsTextOf files name text → IsFormedText text
+formed_text law graphs files name (Read document) t = (law NESTING t.is.is.tokens (document_view document) t.is.is.reads, graphs NESTING t.is.is.tokens (document_view document) t.is.is.reads)
+formed_text law graphs files name (text.Refused broken place) t = tt
 
 -- what a document that was taken is
 pub document_of : (files : Option Files) (name : List ℕ) (text : DocumentText) (r : Result Document NoMemory) → IsTextOf files name text → ((bytes : List ℕ) → IsTheText bytes text → IfOk r (IsTheDocument bytes)) → IfOk r (IsDocumentOf files name)

@@ -7,6 +7,7 @@ use Rattle.msc_cmd.specs.declared.document.Document.{Document}
 use Rattle.msc_cmd.specs.declared.document_text.DocumentText.{DocumentText}
 use Rattle.msc_cmd.specs.declared.document_text.DocumentText.TheVariants.{Read, Refused}
 use Rattle.chart_text.specs.WellFormed.{AreAllWellFormed}
+use Rattle.formed_graphs.specs.FormedGraphs.{HaveFormedGraphs}
 use Rattle.msc_tree.specs.Views.{document_view}
 use Rattle.msc_cmd.specs.DocumentTexts.{IsTheText}
 use Rattle.msc_cmd.specs.Documents.{IsTheDocument}
@@ -49,9 +50,9 @@ pub record IsTextOf (files : Option Files) (name : List ℕ) (text : DocumentTex
   pub held : IsHeld files name bytes
   pub is : IsTheText bytes text
 
--- the charts of a document that was read are well formed
+-- the charts of a document that was read are well formed, and so are their graphs
 abbrev pub IsFormedText : DocumentText → Type 0
-IsFormedText (Read document) = AreAllWellFormed (document_view document).charts
+IsFormedText (Read document) = AreAllWellFormed (document_view document).charts × HaveFormedGraphs (document_view document).charts
 IsFormedText (Refused broken place) = ⊤
 
 -- the entry of this name is this document, or has this fault; its bytes are told where the entries are

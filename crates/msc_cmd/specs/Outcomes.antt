@@ -7,7 +7,7 @@ use Rattle.msc_base.specs.declared.verdict.Verdict.{Verdict}
 use Rattle.msc_base.specs.declared.verdict.Verdict.TheVariants.{Conforms, Fails, Early, TooLarge}
 use Rattle.msc_tree.specs.Charts.{Document as Tree}
 use Rattle.msc_print.specs.ChartWords.{canonical_text}
-use Rattle.msc_acceptance.specs.Listing.{listed_of}
+use Rattle.chart_lists.specs.Listing.{listed_of}
 use Rattle.msc_meaning.specs.Tables.{ChartEntry, Table, chart_at}
 use Rattle.msc_rules.specs.declared.rule.Rule.{Rule}
 use Rattle.line_events.specs.declared.event.LineEvent.{LineEvent}
@@ -71,7 +71,7 @@ CheckAnswer json table = Says (accepted_line json (length table))
 -- where it is listed: its charts, or the instances of one
 abbrev pub ListAnswer : Bool → Option (List ℕ) → Table → ℕ → List ℕ → Type 0
 ListAnswer json None table = Says (chart_list json table)
-ListAnswer json (Some name) table = ChartOutcome json name table (λ chart. Says (instance_list json (listed_of chart)))
+ListAnswer json (Some name) table = ChartOutcome json name table (λ chart. Says (instance_list json (listed_of table chart)))
 
 -- what the entries of these names give
 abbrev pub FilesOutcome : LogForm → ℕ → Bool → Files → List ℕ → List ℕ → List ℕ → ℕ → List ℕ → Type 0

@@ -2,6 +2,7 @@
 
 ghost use Rattle.std.specs.Prelude.{◌≡◌, IfOk, List, None, false, option_copied, option_map, true, ℕ};
 ghost use Rattle.chart_text.specs.WellFormed.{AreAllWellFormed};
+ghost use Rattle.formed_graphs.specs.FormedGraphs.{HaveFormedGraphs};
 ghost use Rattle.msc_meaning.specs.Tables.{chart_at};
 ghost use Rattle.msc_meaning.specs.Views.{entry_view, table_view};
 ghost use Rattle.msc_tree.specs.Views.{document_view};
@@ -28,7 +29,8 @@ pub enum Document {
 
 /// What a document that has been read comes to.
 fn come_to(alloc: Global, document: RawDocument) -> Result<Document, NoMemory>
-    requires { AreAllWellFormed (document_view document).charts }
+    requires formed { AreAllWellFormed (document_view document).charts }
+    requires graphs { HaveFormedGraphs (document_view document).charts }
     ensures { IfOk result (ComesTo (document_view document)) }
 {
     match accept(alloc, document) {

@@ -1,7 +1,7 @@
 //! The command `list`: for `command` alone.
 
 ghost use Rattle.std.specs.Prelude.{◌≡◌, ◌<◌, ◌≤◌, IfOk};
-ghost use Rattle.msc_acceptance.specs.Listing.{listed_of};
+ghost use Rattle.chart_lists.specs.Listing.{listed_of};
 ghost use Rattle.msc_meaning.specs.Views.{table_view};
 ghost use Rattle.judge_report.specs.Lists.{instance_list};
 ghost use Rattle.msc_cmd.specs.Failures.{CannotOpen};
@@ -9,8 +9,9 @@ ghost use Rattle.msc_cmd.specs.Outcomes.{ChartOutcome, DocumentOutcome, IfTold, 
 
 use crate::answer::{Reply, make_reply};
 use crate::opening::{Opened, open_document};
+use chart_lists::listed_of;
 use judge_report::{Fault, chart_list_text, instance_list_text};
-use msc_acceptance::{Accepted, listed_of};
+use msc_acceptance::Accepted;
 use msc_base::{NoMemory, Text};
 use outside::Shelf;
 use std::alloc::Global;
@@ -24,12 +25,12 @@ fn list_instances(
 ) -> Result<Reply, NoMemory>
     ensures small { IfOk result (λ r. r.status < 7) }
     ensures not_two { IfOk result (λ r. r.status ≡ 2 → ⊥) }
-    ensures outcome { IfOk result (λ r. IsTheOne (ChartOutcome json name.now (table_view accepted.now) (λ chart. Says (instance_list json (listed_of chart)))) r.status r.text) }
+    ensures outcome { IfOk result (λ r. IsTheOne (ChartOutcome json name.now (table_view accepted.now) (λ chart. Says (instance_list json (listed_of (table_view accepted.now) chart)))) r.status r.text) }
 {
     let Some(chart) = accepted.chart_named(name.bytes()) else {
         return make_reply(alloc, 4, &Fault::NoChart, json);
     };
-    let listed = listed_of(alloc, chart)?;
+    let listed = listed_of(alloc, accepted.table(), chart)?;
     let text = instance_list_text(alloc, &listed, json)?;
     Ok(Reply { status: 0, text })
 }

@@ -10,7 +10,7 @@ use crate::document_text::{DocumentText, text_of};
 use crate::entry::{PIECE_BYTES, ReadFault, read_piece, start_entry};
 use crate::intake::Intake;
 use msc_base::{Limits, NoMemory, Text};
-use msc_document::documents_are_exact;
+use msc_document::{documents_are_exact, graphs_are_formed};
 use outside::Shelf;
 use std::alloc::Global;
 
@@ -94,6 +94,7 @@ pub fn take_document<S: Shelf>(
     ensures last { IsErrOf result ReadFault.Failed → S.last shelf.new ≡ Some name.now }
 {
     documents_are_exact();
+    graphs_are_formed();
     let text = take_text(alloc, shelf, name)?;
     match settle(alloc, text) {
         Ok(document) => Ok(document),

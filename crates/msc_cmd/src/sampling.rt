@@ -17,7 +17,7 @@ use crate::sample_log::{Sampled, judge_turns};
 use chart_judge::laws::largest_weights_are_told;
 use judge_report::{Fault, sample_text as text_of_sample};
 use msc_base::{NoMemory, Verdict};
-use msc_document::documents_are_exact;
+use msc_document::{documents_are_exact, graphs_are_formed};
 use std::alloc::Global;
 
 /// The text of the sample's document: a request and its answer, once or more often.
@@ -33,6 +33,7 @@ fn sample_document(alloc: Global) -> Result<Document, NoMemory>
     ensures { IfOk result (IsTheDocument sample_text) }
 {
     documents_are_exact();
+    graphs_are_formed();
     let text = read_text(alloc, document_text().as_bytes())?;
     settle(alloc, text)
 }

@@ -4,6 +4,7 @@ pub mod ChartRules
 pub mod ColumnRules
 pub mod Continued
 pub mod DocumentRules
+pub mod DrawnGraphs
 pub mod Firsts
 pub mod Formed
 pub mod FormedExpressions

@@ -7,3 +7,4 @@ pub mod Inlines
 pub mod ItemReaders
 pub mod StatementReaders
 pub mod FormedDocuments
+pub mod FormedGraphs

@@ -18,6 +18,6 @@ mod reference;
 mod starts;
 mod statements;
 
-pub use laws::documents_are_exact;
+pub use laws::{documents_are_exact, graphs_are_formed};
 pub use parsing::parse;
 pub use part_reading::read_by_parts;

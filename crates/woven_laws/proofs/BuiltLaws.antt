@@ -33,7 +33,7 @@ use Rattle.chart_forms.specs.NotBuilt.{IsBuilt, not_built_event, not_built_event
 use Rattle.creation_rules.specs.Creating.{ChartCreatesTwice, is_creator}
 use Rattle.creation_rules.specs.Placing.{is_creation}
 use Rattle.woven_laws.specs.BuiltCharts.{BuiltChartsAreKnown}
-use Rattle.woven_laws.proofs.BuiltPieces.{IsBuiltPiece, chart_pieces_built, never, no_graph, of_built}
+use Rattle.woven_laws.proofs.BuiltPieces.{IsBuiltPiece, chart_pieces_built, never, of_built}
 use Rattle.woven_laws.proofs.Creations.{AreApartEvents, IsApartEvent}
 use Rattle.woven_laws.proofs.Declaring.{AreAmong, AreKnown, all_among, known_left, known_right}
 use Rattle.woven_laws.proofs.EachPiece.{EachOfAll, level_each, parts_each}
@@ -176,7 +176,4 @@ chart_built c held b is formed built none apart w =
     body_built (instances c) b all (zipped (instances c) (statements_pieces (instances c) 0 (statements held)) (chart_pieces_built c held (instances c) is formed built) (chart_named c held (instances c) is formed none apart all)) w
 
 pub built_charts_are_known : BuiltChartsAreKnown
-built_charts_are_known = record {
-  built = chart_built;
-  basic = no_graph;
-}
+built_charts_are_known = record { built = chart_built }

@@ -12,8 +12,7 @@ use Rattle.msc_base.specs.Lists.{IsAmong}
 use Rattle.msc_base.specs.declared.place.Place.{Place}
 use Rattle.list_facts.proofs.Joining.{left_nil, right_nil}
 use Rattle.msc_meaning.specs.Pieces.{Piece, operand_of, statements_pieces}
-use Rattle.msc_tree.specs.Charts.{Basic, Chart, Content, HighLevel}
-use Rattle.msc_tree.specs.Graphs.{Graph}
+use Rattle.msc_tree.specs.Charts.{Basic, Chart, Content}
 use Rattle.msc_tree.specs.Statements.{Statement, statements}
 
 -- ---- what a built chart lacks
@@ -24,11 +23,6 @@ none_among (x ∷ xs) none = absurd (none x (inl refl))
 
 pub text_none : (chart : Chart) → IsBuilt chart → flat_map not_built (chart_text chart) ≡ []
 text_none chart built = right_nil (not_built_graph chart.place chart.content) (flat_map not_built (chart_text chart)) (none_among (not_built_chart chart) built)
-
-pub no_graph : (chart : Chart) (drawn : Graph) → chart.content ≡ HighLevel drawn → IsBuilt chart → ⊥
-no_graph chart drawn is built =
-    let none = left_nil (not_built_graph chart.place chart.content) (flat_map not_built (chart_text chart)) (none_among (not_built_chart chart) built) in
-    let drawn_none : not_built_graph chart.place (HighLevel drawn) ≡ [] = subst (λ (x : Content). not_built_graph chart.place x ≡ []) is none in cc
 
 -- ---- tests
 

@@ -12,6 +12,7 @@ mod Refined
 mod LinkedSizes
 mod GraphSizes
 mod WovenNames
+mod DrawnNames
 mod Untied
 mod BuiltPieces
 mod Declaring

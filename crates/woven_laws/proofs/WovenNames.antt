@@ -29,17 +29,17 @@ use Rattle.woven_laws.proofs.EachPiece.{EachOfAll, level_each, parts_each}
 -- ---- expressions
 
 -- a link so deep at least names the chart
-record IsLinkedAt (links : List Link) (depth : ℕ) (name : List ℕ) : Type 0 where
-  link : Link
-  says : IsAmong links link
-  is : linked link ≡ name
-  deep : depth ≤ depth_of link
+pub record IsLinkedAt (links : List Link) (depth : ℕ) (name : List ℕ) : Type 0 where
+  pub link : Link
+  pub says : IsAmong links link
+  pub is : linked link ≡ name
+  pub deep : depth ≤ depth_of link
 
 raised : (links : List Link) (depth : ℕ) (name : List ℕ) → IsLinkedAt links (depth + 1) name → IsLinkedAt links depth name
 raised links depth name h = record { link = h.link; says = h.says; is = h.is; deep = omega (arith, h.deep) }
 
 mutual
-  expression_linked : (place : Place) (scope : Scope) (depth : ℕ) (e : Expression) (name : List ℕ) → IsAmong (charts_in e) name → IsLinkedAt (expression_links place scope depth e) depth name
+  pub expression_linked : (place : Place) (scope : Scope) (depth : ℕ) (e : Expression) (name : List ℕ) → IsAmong (charts_in e) name → IsLinkedAt (expression_links place scope depth e) depth name
   expression_linked place scope depth Empty name h = absurd h
   expression_linked place scope depth (expression.Chart n) name (inl e) = record { link = Refers n place scope depth; says = inl refl; is = sym e; deep = omega arith }
   expression_linked place scope depth (expression.Chart n) name (inr h) = absurd h

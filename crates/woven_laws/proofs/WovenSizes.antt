@@ -21,6 +21,7 @@ use Rattle.woven_laws.proofs.Refined.{chart_refined}
 use Rattle.msc_meaning.specs.Tables.{refinements}
 use Rattle.msc_meaning.specs.WovenTables.{chart_decls}
 use Rattle.woven_laws.specs.JoinSums.{item_joins, items_joins, level_joins, operands_joins}
+use Rattle.woven_laws.proofs.DrawnNames.{drawn_linked}
 use Rattle.woven_laws.proofs.GraphSizes.{graph_light}
 use Rattle.woven_laws.proofs.LinkedSizes.{chart_low, count}
 use Rattle.woven_laws.proofs.PieceSizes.{at_size_is, different_size, inline_parts, level_low, lists_size, parts_size, pieces_size, sizes_at, statements_are}
@@ -86,5 +87,6 @@ woven_charts_are_known numbers = record {
   drawn = λ c drawn size_of refining product is. graph_light size_of refining product c drawn is;
   once = λ names held b h. numbers names 0 (statements held) b h;
   named = chart_linked;
+  nodes = drawn_linked;
   refined = chart_refined;
 }

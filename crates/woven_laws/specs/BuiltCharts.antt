@@ -23,14 +23,14 @@ use Rattle.msc_meaning.specs.WovenTables.{chart_decls}
 use Rattle.msc_tree.specs.Charts.{Basic, Chart, HighLevel}
 use Rattle.msc_tree.specs.Graphs.{Graph}
 use Rattle.msc_tree.specs.Statements.{Statement, statements}
+use Rattle.woven_laws.specs.GraphNames.{graph_names}
 use Rattle.woven_laws.specs.JoinSums.{level_joins}
 
 -- of a chart whose forms are built: what its statements, where they are well formed, name no others and create none that may not be, are
--- woven to is built at its instances. A graph isn't built
+-- woven to is built at its instances
 pub record BuiltChartsAreKnown : Type 0 where
   pub built : (c : Chart) (held : List Statement) (b : Body) → c.content ≡ Basic held → IsWellFormed c → IsBuilt c → ((p : Place) → ChartNamesOther c p → ⊥) → ((p : Place) → ChartCreatesTwice c p → ⊥)
       → IsWovenLevel (instances c) (statements_pieces (instances c) 0 (statements held)) b → IsBuiltBody (instances c) b
-  pub basic : (c : Chart) (drawn : Graph) → c.content ≡ HighLevel drawn → IsBuilt c → ⊥
 
 -- a link names the chart, below its own
 pub record IsLinked (links : List Link) (name : List ℕ) : Type 0 where
@@ -56,7 +56,7 @@ refinements_size refining (r ∷ rs) = refining r.chart + refinements_size refin
 
 -- what statements are woven to, with the charts that refine instances, is no larger than they with what joins add, whatever the charts count
 -- that are named, and a graph is no larger than its text; the numbers of the events of statements, at any depth, differ; and the charts that
--- they name, and those that refine instances, are those of the text's links
+-- they or the nodes of a graph name, and those that refine instances, are those of the text's links
 pub record WovenChartsAreKnown : Type 0 where
   pub light : (c : Chart) (held : List Statement) (b : Body) (size_of refining : List ℕ → ℕ) (product : WovenItems → ReferencePart → ℕ) → c.content ≡ Basic held → IsWovenLevel (instances c) (statements_pieces (instances c) 0 (statements held)) b
       → 2 + level_size size_of product b + refinements_size refining (refinements (chart_decls c)) ≤ (own_extent c).size + level_joins product b + named_size size_of refining (chart_links c)
@@ -64,4 +64,5 @@ pub record WovenChartsAreKnown : Type 0 where
   pub once : (names : List (List ℕ)) (held : List Statement) (b : Body) → IsWovenLevel names (statements_pieces names 0 (statements held)) b → Once (map (λ (n : EventNode). n.number) (events_within b))
   pub named : (c : Chart) (held : List Statement) (b : Body) → c.content ≡ Basic held → IsWovenLevel (instances c) (statements_pieces (instances c) 0 (statements held)) b
       → (name : List ℕ) → IsAmong (level_names b) name → IsLinked (chart_links c) name
+  pub nodes : (c : Chart) (drawn : Graph) → c.content ≡ HighLevel drawn → (name : List ℕ) → IsAmong (graph_names drawn) name → IsLinked (chart_links c) name
   pub refined : (c : Chart) (held : List Statement) → c.content ≡ Basic held → (r : Refinement) → IsAmong (refinements (chart_decls c)) r → IsLinked (chart_links c) r.chart

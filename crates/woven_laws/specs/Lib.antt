@@ -1,4 +1,5 @@
 pub mod NumberLaws
 pub mod JoinSums
+pub mod GraphNames
 pub mod BuiltCharts
 pub mod JoinedCharts

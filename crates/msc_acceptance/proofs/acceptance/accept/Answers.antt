@@ -48,8 +48,10 @@ returns-in-Ok-Accepted-clause-charts c =
     let decided : IsDecided charts (decision.Accepted c.in-Ok-Accepted.accepted) = search rules in
     let others = body_groups ++ (table_groups ++ graph_groups) in
     let texts = kept_left charts text_groups others decided.0 in
-    let together = kept_left charts table_groups graph_groups (kept_right charts body_groups (table_groups ++ graph_groups) (kept_right charts text_groups others decided.0)) in
-    accepted_table c.built_charts_are_known.ensures c.woven_charts_are_known.ensures charts c.requires texts (table_view c.in-Ok-Accepted.accepted) decided.1 c.levels_have_gates.ensures c.join_sizes_are_known.ensures together decided.2 decided.3
+    let behind = kept_right charts body_groups (table_groups ++ graph_groups) (kept_right charts text_groups others decided.0) in
+    let together = kept_left charts table_groups graph_groups behind in
+    let drawn = kept_right charts table_groups graph_groups behind in
+    accepted_table c.built_charts_are_known.ensures c.woven_charts_are_known.ensures charts c.requires.formed texts (table_view c.in-Ok-Accepted.accepted) decided.1 c.levels_have_gates.ensures c.join_sizes_are_known.ensures c.requires.graphs together drawn decided.2 decided.3
 
 pub returns-in-Ok-Accepted-clause-faultless : goal.returns-in-Ok-Accepted-clause-faultless
 returns-in-Ok-Accepted-clause-faultless c =

@@ -22,7 +22,7 @@ use Rattle.msc_acceptance.specs.RefinedTexts.{AreKnownLinks, AreKnownRefinements
 use Rattle.msc_acceptance.specs.SizedCharts.{OfSizes}
 use Rattle.msc_acceptance.specs.declared.deciding.Decision.{Decision}
 use Rattle.msc_acceptance.specs.declared.deciding.Decision.TheVariants as decision
-use Rattle.msc_acceptance.proofs.AcceptLaws.{built_of, few, first_left, first_right, kept_both}
+use Rattle.msc_acceptance.proofs.AcceptLaws.{few, first_left, first_right, kept_both}
 use Rattle.msc_acceptance.proofs.AcceptedLaws.{all_there, differ, entry_names}
 use Rattle.msc_acceptance.proofs.HeldGates.{all_go}
 use Rattle.msc_acceptance.proofs.RefinementPlaces.{known_lent, view_names}
@@ -51,13 +51,6 @@ returns-in-Some c =
     let told : IsFirstOf charts text_groups c.in_ok-fault.field-0 = subst (λ (l : List RawChart). IsFirstOf (map chart_view l) text_groups c.in_ok-fault.field-0) c.as_slice-2.ensures.value c.in_ok-fault.ensures.first in
     let e : c.in_ok-fault.field-0 ≡ Some c.in-Some.fault = search rules in
     first_left charts text_groups others c.in-Some.fault (subst (λ (o : Option (Broken Rule)). IsFirstOf charts text_groups o) e told)
-
-pub woven_charts-requires-clause-built : goal.woven_charts-requires-clause-built
-woven_charts-requires-clause-built c =
-    let charts = map chart_view c.args.charts.items in
-    let told : IsFirstOf charts text_groups c.in_ok-fault.field-0 = subst (λ (l : List RawChart). IsFirstOf (map chart_view l) text_groups c.in_ok-fault.field-0) c.as_slice-2.ensures.value c.in_ok-fault.ensures.first in
-    let e : c.in_ok-fault.field-0 ≡ None = search rules in
-    built_of charts (subst (λ (o : Option (Broken Rule)). IsFirstOf charts text_groups o) e told)
 
 pub returns-in-Some-body_fault : goal.returns-in-Some-body_fault
 returns-in-Some-body_fault c =

@@ -7,7 +7,7 @@ use Rattle.msc_meaning.specs.declared.body.ChartEntry as code
 use Rattle.msc_acceptance.proofs.ChartLists.{own_of}
 use Rattle.msc_acceptance.proofs.TableLaws.{AreWovenSoFar, faults_all, faults_start, made_all, woven_more}
 use Rattle.msc_acceptance.proofs.Taking.{all_taken, left_less, next_is, next_low, taken, taken_more}
-use Rattle.msc_acceptance.proofs.WalkLaws.{chart_built, chart_formed}
+use Rattle.msc_acceptance.proofs.WalkLaws.{chart_formed}
 use Rattle.msc_acceptance.proofs.tables.woven_charts.Goals as goal
 
 pub loop-chart-init : goal.loop-chart-init
@@ -40,13 +40,6 @@ woven-requires-clause-formed c =
     let x = c.in-Some.chart in
     let split = taken c.loop-chart.yielded _ _ c.args.charts.items x c.in-Some.ensures.steps.0 c.loop-chart.invariant.split in
     chart_formed c.args.charts.items k x c.requires.formed (next_low c.loop-chart.yielded _ c.args.charts.items x split) (next_is c.loop-chart.yielded _ c.args.charts.items x split)
-
-pub woven-requires-clause-built : goal.woven-requires-clause-built
-woven-requires-clause-built c =
-    let k = length c.loop-chart.yielded in
-    let x = c.in-Some.chart in
-    let split = taken c.loop-chart.yielded _ _ c.args.charts.items x c.in-Some.ensures.steps.0 c.loop-chart.invariant.split in
-    chart_built c.args.charts.items k x c.requires.built (next_low c.loop-chart.yielded _ c.args.charts.items x split) (next_is c.loop-chart.yielded _ c.args.charts.items x split)
 
 pub loop-chart-preserved : goal.loop-chart-preserved
 loop-chart-preserved c =

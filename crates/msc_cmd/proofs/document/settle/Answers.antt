@@ -7,10 +7,15 @@ use Rattle.msc_cmd.specs.Intakes.{IsFormedText}
 use Rattle.msc_cmd.proofs.Settling.{only_faulty, settled_read}
 use Rattle.msc_cmd.proofs.document.settle.Goals as goal
 
-pub come_to-requires : goal.come_to-requires
-come_to-requires c =
+pub come_to-requires-clause-formed : goal.come_to-requires-clause-formed
+come_to-requires-clause-formed c =
     let is : c.args.text ≡ Read c.in-Read.document = search rules in
-    subst (λ (t : DocumentText). IsFormedText t) is c.requires
+    (subst (λ (t : DocumentText). IsFormedText t) is c.requires).0
+
+pub come_to-requires-clause-graphs : goal.come_to-requires-clause-graphs
+come_to-requires-clause-graphs c =
+    let is : c.args.text ≡ Read c.in-Read.document = search rules in
+    (subst (λ (t : DocumentText). IsFormedText t) is c.requires).1
 
 pub returns-in-Read : goal.returns-in-Read
 returns-in-Read c =

@@ -1,10 +1,9 @@
 use Rattle.msc_meaning.specs.Views.{table_view}
 use Rattle.chart_judge.proofs.Judging.{judging}
-use Rattle.chart_judge.proofs.Known.{graphs}
 use Rattle.chart_judge.proofs.judge.ChartJudge.new.Goals as goal
 
 pub term_of-requires-clause-graphs : goal.term_of-requires-clause-graphs
-term_of-requires-clause-graphs c = graphs (table_view c.args.accepted.now) c.args.name.now c.requires.there.0 c.requires.there.1 c.requires.accepted
+term_of-requires-clause-graphs c = c.charts_have_terms.ensures.graphs (table_view c.args.accepted.now) c.args.name.now c.requires.there.0 c.requires.there.1 c.requires.accepted
 
 pub term_of-requires-clause-room : goal.term_of-requires-clause-room
 term_of-requires-clause-room c = c.charts_have_terms.ensures.room (table_view c.args.accepted.now) c.args.name.now c.requires.there.0 c.requires.there.1 c.requires.accepted

@@ -1,7 +1,7 @@
 use Rattle.std.proofs.Common.{◌≡◌, ◌&&◌, IfOk, List, ℕ, Option, true, false, is_some, subst, sym, ◌∙◌}
 use Rattle.std.specs.Str.{bytes_eq}
-use Rattle.msc_acceptance.proofs.ListLaws.{refined_here, refined_past}
-use Rattle.msc_acceptance.proofs.listing.refined.Goals as goal
+use Rattle.chart_lists.proofs.ListLaws.{refined_here, refined_past}
+use Rattle.chart_lists.proofs.listing.refined.Goals as goal
 
 pub returns-then-is_refined : goal.returns-then-is_refined
 returns-then-is_refined c =
