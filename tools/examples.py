@@ -19,7 +19,8 @@ import tempfile
 
 PAGES = ["README.md", "docs/USER_GUIDE.md", "docs/LOGS.md", "docs/RULES.md", "examples/phone_call/README.md", "examples/dhcp_lease/README.md",
          "examples/keep_alive/README.md", "examples/mail_delivery/README.md", "examples/web_gateway/README.md",
-         "examples/web_shop/README.md", "examples/transport_connection/README.md", "examples/file_transfer/README.md"]
+         "examples/web_shop/README.md", "examples/transport_connection/README.md", "examples/file_transfer/README.md",
+         "examples/mail_session/README.md", "examples/sliding_window/README.md"]
 PROGRAM = "crates/mscjudge/out/mscjudge"
 # what a command may ask for, and the package of Debian that has it
 TOOLS = {"jq": "jq", "mlr": "miller", "tshark": "tshark", "parallel": "parallel", "man": "man-db", "mandoc": "mandoc",
