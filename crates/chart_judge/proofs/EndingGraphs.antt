@@ -1,6 +1,6 @@
 -- In an accepted table the graphs of charts that others name are ending, and so are frames: each label is that of one line, and a walk leads
 -- from the start to an end.
-use Rattle.std.specs.Prelude.{ℕ, ◌≤◌, Bool, true, false, List, [], ◌∷◌, ◌++◌, length}
+use Rattle.std.specs.Prelude.{◌≤◌, Bool, true, false, List, [], ◌∷◌, ◌++◌, length}
 use Rattle.std.proofs.Common.{◌≡◌, ◌⊎◌, inl, inr, refl, sym, subst}
 use Rattle.expanded_terms.specs.GraphWalks.{IsWholeNet, NetsAreWhole}
 use Rattle.expansion_terms.specs.MadeTerms.{net_of_shape}
