@@ -13,9 +13,7 @@ PROGRAM is the built program. Each work is run three times, and the least time c
     frames      frames within each other, as deep as a document may be, and 4,000 frames side by side
     ring        a ring of 4,096 lines, the last of which is the end; and one without an end, named by a basic chart, which is refused
 """
-import os
 import sys
-import tempfile
 
 import measured
 
@@ -134,23 +132,5 @@ WORKS = {
 }
 
 
-def measure(program, told, document, words, log):
-    with tempfile.TemporaryDirectory() as folder:
-        for name, text in (("d", document), ("l", log)):
-            with open(os.path.join(folder, name), "w", encoding="ascii") as file:
-                file.write(text)
-        runs = [measured.run([program, *words], folder) for _ in range(3)]
-    best = min(runs, key=lambda run: run.processor)
-    print(f"{told}, {len(document)} bytes: {best.printed.decode().strip()}, {best.processor:.2f} s of a processor, {best.peak:.0f} MiB", flush=True)
-
-
-def main():
-    program, works = measured.asked(__doc__.splitlines()[0], WORKS)
-    for work in works:
-        for told, make in WORKS[work]:
-            measure(program, told, *make())
-    return 0
-
-
 if __name__ == "__main__":
-    sys.exit(main())
+    sys.exit(measured.all_asked(__doc__.splitlines()[0], WORKS))

@@ -54,6 +54,28 @@ def asked(description, known):
     return os.path.abspath(given.program), given.works or list(known)
 
 
+def judged(program, told, document, words, log):
+    """Runs the program of these words three times over a document and a log, and tells the least time and the peak memory."""
+    # here alone, as in asked
+    import tempfile
+    with tempfile.TemporaryDirectory() as folder:
+        for name, text in (("d", document), ("l", log)):
+            with open(os.path.join(folder, name), "w", encoding="ascii") as file:
+                file.write(text)
+        runs = [run([program, *words], folder) for _ in range(3)]
+    best = min(runs, key=lambda one: one.processor)
+    print(f"{told}, {len(document)} bytes: {best.printed.decode().strip()}, {best.processor:.2f} s of a processor, {best.peak:.0f} MiB", flush=True)
+
+
+def all_asked(description, works):
+    """Measures the works that the words ask for; of each work, what its parts are, and how a document, words and a log are made."""
+    program, names = asked(description, works)
+    for name in names:
+        for told, make in works[name]:
+            judged(program, told, *make())
+    return 0
+
+
 def main():
     start = time.monotonic()
     done = subprocess.run(sys.argv[1:], stdout=subprocess.PIPE, stderr=subprocess.STDOUT, check=False)

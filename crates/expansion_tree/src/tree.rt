@@ -1,3 +1,5 @@
+//! The tree of an expansion: its events, with numbers of their own, and the forms that hold them.
+
 use hmsc_graph::Shape;
 use msc_base::PairList;
 
