@@ -2,28 +2,12 @@
 use Rattle.std.specs.Prelude.{◌≡◌, ℕ, Bool, true, false, List, [], ◌∷◌, Some, None}
 use Rattle.chart_text.specs.WellFormed.{has_parts}
 use Rattle.msc_base.specs.Lists.{IsAmong}
-use Rattle.msc_base.specs.declared.label.Kind.{Kind}
-use Rattle.msc_base.specs.declared.label.Kind.TheVariants.{Output, Input, OutputLost, InputFound, Action, TimerStart, TimerStop, Timeout, Create}
+use Rattle.msc_base.specs.declared.label.Kind.TheVariants.{Create}
 use Rattle.msc_tree.specs.declared.event.Target.{Target}
-use Rattle.msc_tree.specs.declared.event.Target.TheVariants.{Nobody, Env, Instance, Gate}
+use Rattle.msc_tree.specs.declared.event.Target.TheVariants.{Instance}
 use Rattle.msc_tree.specs.declared.reference.InlineForm.{InlineForm}
 use Rattle.msc_tree.specs.declared.reference.InlineForm.TheVariants as inline
 use Rattle.msc_meaning.specs.Bodies.{EventNode, Body, level, WovenItems, no_items, item_and, WovenItem, Single, Coregion, Inline, Refer, Bodies, no_bodies, body_and}
-
--- what is created is an instance, as it is in every text that is read
-abbrev pub creates_instance : Kind → Target → Bool
-creates_instance Create Nobody = false
-creates_instance Create (Env gate) = false
-creates_instance Create (Instance name) = true
-creates_instance Create (Gate name gate) = false
-creates_instance Output target = true
-creates_instance Input target = true
-creates_instance OutputLost target = true
-creates_instance InputFound target = true
-creates_instance Action target = true
-creates_instance TimerStart target = true
-creates_instance TimerStop target = true
-creates_instance Timeout target = true
 
 -- as many operands as the form has
 abbrev pub has_operands : InlineForm → Bodies → Bool

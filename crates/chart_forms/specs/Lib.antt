@@ -1,6 +1,5 @@
 pub mod BodyEvents
 pub mod BuiltBodies
-pub mod NotBuilt
 pub mod TiedTexts
 pub mod LoopBounds
 pub mod ChartSizes

@@ -1,6 +1,7 @@
 -- What is known of the term of a chart of an accepted table, by the laws of such terms.
-use Rattle.std.proofs.Common.{◌≡◌, ◌≤◌, ℕ, List, [], ◌∷◌, Some, arith, refl, sym, ◌∙◌}
+use Rattle.std.proofs.Common.{◌≡◌, ◌≤◌, ◌+◌, ℕ, List, [], ◌∷◌, Some, arith, refl, sym, ◌∙◌}
 use Rattle.msc_base.specs.declared.limits.TheConstants.Limits.{EXPANDED_NESTING, EXPANDED_SIZE}
+use Rattle.msc_base.specs.declared.verdict.Verdict.TheVariants.{TooLarge}
 use Rattle.chart_cycles.specs.Cycles.{AreOrdered, IsOrdered}
 use Rattle.chart_forms.specs.TableSizes.{counted_size}
 use Rattle.chart_term.specs.Terms.{Tree, weight}
@@ -9,6 +10,7 @@ use Rattle.msc_meaning.specs.Meanings.{Finished, Begun}
 use Rattle.msc_meaning.specs.Tables.{ChartEntry, Table, chart_at}
 use Rattle.expanded_terms.specs.GateTies.{IsQuietTable}
 use Rattle.expanded_terms.specs.GraphWalks.{NetsAreWhole}
+use Rattle.expanded_terms.specs.NetWeights.{nets_weight}
 use Rattle.graph_rules.specs.EndingGraphs.{WalksEnd}
 use Rattle.expanded_terms.specs.WholeCharts.{IsWholeTo}
 use Rattle.gate_ends.specs.EndLaws.{EndsAreFound}
@@ -21,13 +23,15 @@ use Rattle.term_tables.specs.NetValues.{NetsValue}
 use Rattle.trace_judge.specs.Laws.{VerdictsTellRuns}
 use Rattle.trace_judge.specs.Sets.{IsSoundFor}
 use Rattle.verdict_meaning.proofs.Labelled.{begun_there}
+use Rattle.verdict_meaning.specs.Budgets.{BudgetSuffices}
+use Rattle.chart_judge.specs.ChartBudgets.{ChartBudgetsSuffice}
 use Rattle.chart_judge.specs.ChartsTold.{ChartsHaveRuns, ChartsHaveTerms, VerdictsAreTold}
 use Rattle.chart_judge.proofs.NestedTables.{sound_graphs}
 use Rattle.chart_judge.proofs.WholeTables.{all_quiet, whole_to}
 use Rattle.chart_judge.proofs.FewTables.{few_to}
 use Rattle.chart_judge.proofs.TableEntries.{name_has}
 use Rattle.chart_judge.proofs.TableRoom.{are_placed, has_room}
-use Rattle.chart_judge.proofs.Verdicts.{IsKnown, begins_empty, told}
+use Rattle.chart_judge.proofs.Verdicts.{IsKnown, begins_empty, to_residual, told}
 
 one_term : (table : Table) (name : List ℕ) (v w : NetsValue) (x y : Tree) → IsTermOf table name v x → IsTermOf table name w y → (v ≡ w) × (x ≡ y)
 one_term table name v w x y a b = (a.nets ∙ sym b.nets, a.term ∙ sym b.term)
@@ -68,11 +72,11 @@ module _ (table : Table) (name : List ℕ) (chart : ChartEntry) (is : chart_at t
       placed = placed table name v x made (are_placed table accepted name);
     }
 
-    chart_weighs : TableTermsAreLight → weight x ≤ counted_size table name
+    chart_weighs : TableTermsAreLight → weight x + nets_weight v.tables ≤ counted_size table name
     chart_weighs laws = laws table name v x (graphs nets ends) made (few_to table accepted.charts accepted.gates EXPANDED_NESTING name there)
 
-    chart_light : TableTermsAreLight → weight x ≤ EXPANDED_SIZE
-    chart_light laws = below (weight x) (counted_size table name) EXPANDED_SIZE (chart_weighs laws) small
+    chart_light : TableTermsAreLight → weight x + nets_weight v.tables ≤ EXPANDED_SIZE
+    chart_light laws = below (weight x + nets_weight v.tables) (counted_size table name) EXPANDED_SIZE (chart_weighs laws) small
 
 pub have_terms : EndsAreFound → NetsAreWhole → WalksEnd → TableTermsMean → TableTermsAreSound → TableTermsArePlaced → TableTermsAreLight → ChartsHaveTerms
 have_terms found nets ends mean sound placed light = record {
@@ -96,6 +100,14 @@ known terms table name chart v x is accepted made = record {
 
 pub verdicts_told : ChartsHaveTerms → VerdictsTellRuns → VerdictsAreTold
 verdicts_told terms laws table name chart v x budget events verdict is accepted made w = told table name v x (known terms table name chart v x is accepted made) laws budget events verdict w
+
+-- ---- the budget that no log passes
+
+pub budgets_suffice : ChartsHaveTerms → BudgetSuffices → ChartBudgetsSuffice
+budgets_suffice terms law = record {
+  never = λ table name chart v x budget events number is accepted made one enough w.
+      law.never v x budget events number one enough (to_residual table name v x (known terms table name chart v x is accepted made) budget events (TooLarge number) w);
+}
 
 -- ---- runs
 

@@ -68,7 +68,7 @@ module _ (table : Table) (name : List ℕ) (v : NetsValue) (x : Tree) (known : I
 
   -- ---- verdicts
 
-  to_residual : (budget : ℕ) (events : List LineEvent) (verdict : Verdict) → IsChartVerdict table name budget events verdict → residual.IsTermVerdict v x budget events verdict
+  pub to_residual : (budget : ℕ) (events : List LineEvent) (verdict : Verdict) → IsChartVerdict table name budget events verdict → residual.IsTermVerdict v x budget events verdict
   to_residual budget events verdict w =
       verdict_moves (Conforms table name) (Begins table name) (LeavesEnding v x) (LeavesSome v x) (λ labels. back (run labels)) (λ labels. back (begin labels)) events
       (IsWithinBudget table name budget) (IsAboveBudget table name budget) (WeighsWithin v x budget) (WeighsMore v x budget)

@@ -1,4 +1,5 @@
 pub mod ChartVerdicts
+pub mod ChartBudgets
 pub mod ChartsTold
 pub mod Judging
 pub mod Judged

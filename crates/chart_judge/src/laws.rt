@@ -1,5 +1,6 @@
 //! The laws of a chart's term and of the verdict by it. Each is the contract of a function that does nothing.
 
+ghost use Rattle.chart_judge.specs.ChartBudgets.{ChartBudgetsSuffice};
 ghost use Rattle.chart_judge.specs.ChartsTold.{ChartsHaveRuns, ChartsHaveTerms, VerdictsAreTold};
 ghost use Rattle.chart_judge.specs.LargestWeights.{LargestIsTold};
 
@@ -10,9 +11,10 @@ use table_terms::laws::{
     table_terms_are_light, table_terms_are_placed, table_terms_are_sound, table_terms_mean,
 };
 use trace_judge::laws::{sets_go_on, verdicts_tell_runs};
+use verdict_meaning::laws::budget_suffices;
 
-/// A chart of an accepted table has one term, for which there is room; it means the chart's unfoldings, is sound, and weighs no more than
-/// the chart's expanded size and the limit of sizes.
+/// A chart of an accepted table has one term, for which there is room; it means the chart's unfoldings, is sound, and weighs, with
+/// the terms of the nodes of its nets, no more than the chart's expanded size and the limit of sizes.
 pub fn charts_have_terms()
     ensures { ChartsHaveTerms }
 {
@@ -31,6 +33,15 @@ pub fn verdicts_are_told()
 {
     charts_have_terms();
     verdicts_tell_runs();
+}
+
+/// Where the term of a chart of an accepted table is unambiguous, no log of n events is too large for a budget of 2·(n+1) times its
+/// weight.
+pub fn budgets_suffice()
+    ensures { ChartBudgetsSuffice }
+{
+    charts_have_terms();
+    budget_suffices();
 }
 
 /// Each unfolding of a chart of an accepted table has a linear order, and a run of the chart begins with no label.

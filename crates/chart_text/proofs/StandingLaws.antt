@@ -1,8 +1,8 @@
 -- What holds of each passage of a text holds of each part of it; and, where it asks of a standing no more than that it is at one instance,
 -- of the same text at another standing.
-use Rattle.std.specs.Prelude.{◌≡◌, ℕ, true, List, [], ◌∷◌, ◌++◌}
+use Rattle.std.proofs.Common.{◌≡◌, ◌&&◌, ℕ, Bool, true, false, List, [], ◌∷◌, ◌++◌, refl}
 use Rattle.chart_text.specs.Texts.{Standing, Passage, a_statement, an_item, an_operand, Scope, behind_colon, form_text, in_column, inside, items_text, operand_held, operands_text, statement_held, statements_text}
-use Rattle.chart_text.specs.WellFormed.{Each, is_at_one, is_well_formed_item}
+use Rattle.chart_text.specs.WellFormed.{Each, are_well_formed_events, is_at_one, is_well_formed_event, is_well_formed_item}
 use Rattle.msc_base.specs.declared.place.Place.{Place}
 use Rattle.msc_tree.specs.declared.chart.Cover.TheVariants.{All, Listed}
 use Rattle.msc_tree.specs.Statements.{placed, Form, Single, Coregion, Condition, Inline, Refer, Stop, Items, no_items, item_and, Operand, InColumn, Outside, Operands, no_operands, operand_and, Statement, Column, Covered, Heading, Ended, Statements, no_statements, statement_and}
@@ -17,10 +17,28 @@ pub record IsMovable (P : Passage → Type 0) : Type 0 where
   pub statement : (m n : ℕ) (v w : Scope) (x : Statement) → P (a_statement m v x) → P (a_statement n w x)
   pub operand : (s t : Standing) (x : Operand) → P (an_operand s x) → P (an_operand t x)
 
+-- ---- two tests
+
+pub both : (a b : Bool) → a ≡ true → b ≡ true → (a && b) ≡ true
+both true b h k = k
+both false b h k = cc
+
+pub left_test : (a b : Bool) → (a && b) ≡ true → a ≡ true
+left_test true b h = refl
+left_test false b h = h
+
+pub right_test : (a b : Bool) → (a && b) ≡ true → b ≡ true
+right_test true b h = h
+right_test false b h = cc
+
 -- that a text is well formed
 pub formed_item : (s t : Standing) (f : Form) → IsNoLess s t → is_well_formed_item s.side f ≡ true → is_well_formed_item t.side f ≡ true
-formed_item s t (Single e) b h = b h
-formed_item s t (Coregion es) b h = b h
+formed_item s t (Single e) b h =
+    let own = is_well_formed_event e in
+    both (is_at_one t.side) own (b (left_test (is_at_one s.side) own h)) (right_test (is_at_one s.side) own h)
+formed_item s t (Coregion es) b h =
+    let own = are_well_formed_events es in
+    both (is_at_one t.side) own (b (left_test (is_at_one s.side) own h)) (right_test (is_at_one s.side) own h)
 formed_item s t (Inline head held) b h = h
 formed_item s t (Condition names shared) b h = h
 formed_item s t (Refer reference) b h = h

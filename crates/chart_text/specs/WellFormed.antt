@@ -1,6 +1,12 @@
--- What each text that is read has beside its tree: an event and a coregion stand at one instance, an inline expression has as many operands
--- as its form takes, and what is put together in the expression of a reference has two parts at least (Z.120, clauses 4.2, 7.2 and 7.3).
+-- What each text that is read has beside its tree: an event and a coregion stand at one instance, what an event creates is an instance, an
+-- inline expression has as many operands as its form takes, and what is put together in the expression of a reference has two parts at least
+-- (Z.120, clauses 4.2, 4.10, 7.2 and 7.3).
 use Rattle.std.specs.Prelude.{◌≡◌, ◌&&◌, ⊤, Bool, true, false, nat_eq, length, List, [], ◌∷◌}
+use Rattle.msc_base.specs.declared.label.Kind.{Kind}
+use Rattle.msc_base.specs.declared.label.Kind.TheVariants.{Output, Input, OutputLost, InputFound, Action, TimerStart, TimerStop, Timeout, Create}
+use Rattle.msc_tree.specs.declared.event.RawEvent.{RawEvent}
+use Rattle.msc_tree.specs.declared.event.Target.{Target}
+use Rattle.msc_tree.specs.declared.event.Target.TheVariants.{Nobody, Env, Instance, Gate}
 use Rattle.msc_tree.specs.declared.reference.InlineForm.{InlineForm}
 use Rattle.msc_tree.specs.declared.reference.InlineForm.TheVariants.{Alt, Opt, Par, Loop, Exc}
 use Rattle.msc_tree.specs.Charts.{Chart}
@@ -14,6 +20,28 @@ abbrev pub is_at_one : Side → Bool
 is_at_one (in_column name) = true
 is_at_one (behind names) = nat_eq (length names) 1
 is_at_one (behind_all scope) = false
+
+-- what is created is an instance
+abbrev pub creates_instance : Kind → Target → Bool
+creates_instance Create Nobody = false
+creates_instance Create (Env gate) = false
+creates_instance Create (Instance name) = true
+creates_instance Create (Gate name gate) = false
+creates_instance Output target = true
+creates_instance Input target = true
+creates_instance OutputLost target = true
+creates_instance InputFound target = true
+creates_instance Action target = true
+creates_instance TimerStart target = true
+creates_instance TimerStop target = true
+creates_instance Timeout target = true
+
+abbrev pub is_well_formed_event : RawEvent → Bool
+is_well_formed_event event = creates_instance event.kind event.target
+
+abbrev pub are_well_formed_events : List RawEvent → Bool
+are_well_formed_events [] = true
+are_well_formed_events (event ∷ events) = is_well_formed_event event && are_well_formed_events events
 
 -- `alt` and `par` take any number of operands but none, the others one
 abbrev pub takes : InlineForm → Operands → Bool
@@ -53,8 +81,8 @@ abbrev mutual
   have_parts (more x xs) = has_parts x && have_parts xs
 
 abbrev pub is_well_formed_item : Side → Form → Bool
-is_well_formed_item side (Single event) = is_at_one side
-is_well_formed_item side (Coregion events) = is_at_one side
+is_well_formed_item side (Single event) = is_at_one side && is_well_formed_event event
+is_well_formed_item side (Coregion events) = is_at_one side && are_well_formed_events events
 is_well_formed_item side (Inline head held) = takes head.form held
 is_well_formed_item side (Condition names shared) = true
 is_well_formed_item side (Refer reference) = has_parts reference.expression

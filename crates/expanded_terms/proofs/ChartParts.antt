@@ -1,6 +1,6 @@
 -- From what the charts mean that a chart names to what it means itself, as deep as references stand in each other; and the chart as a
 -- whole.
-use Rattle.std.specs.Prelude.{ℕ, zero, suc, ◌+◌, ◌≤◌, Bool, true, false, List, [], ◌∷◌, Option, Some, length}
+use Rattle.std.specs.Prelude.{ℕ, zero, suc, ◌+◌, ◌≤◌, Bool, true, false, List, [], Option, Some, length}
 use Rattle.std.proofs.Common.{◌≡◌, sym, subst, inl, inr, arith}
 use Rattle.msc_base.specs.Orders.{Once}
 use Rattle.msc_unfolding.specs.Unfoldings.{Happening, Unfolding}
@@ -37,7 +37,7 @@ use Rattle.msc_meaning.specs.ChartUnfoldings.{OfExpression, chart, OfWalk, OfWov
 use Rattle.msc_meaning.specs.FarEnds.{GateMap, no_gates}
 use Rattle.msc_meaning.specs.InnerEvents.{GateEnd}
 use Rattle.msc_meaning.specs.Meanings.{Finished, Open, Begun}
-use Rattle.msc_meaning.specs.Tables.{Table, ChartEntry, chart_at, Woven, Basic, HighLevel, Refinement, refinements}
+use Rattle.msc_meaning.specs.Tables.{Table, ChartEntry, chart_at, HighLevel, refinements}
 use Rattle.expanded_terms.specs.ExpandedTerms.{Leaves, Charts, charts_to, entry_count, entry_shown, entry_term, lines_count, lines_terms, woven_count, woven_shown, woven_term}
 use Rattle.expanded_terms.specs.ExpandedLaws.{ExpandedTermsMean, IsBasicChart, IsJudgedGraph}
 use Rattle.expanded_terms.specs.FitBodies.{AreFitLines, HasFitEntry, IsFitTo}

@@ -1,8 +1,7 @@
 -- At a greater depth a whole chart has the same count and shows the same.
 use Rattle.std.specs.Prelude.{ℕ, zero, suc, ◌+◌, ◌≤◌, List, [], ◌∷◌, ◌++◌, Option}
 use Rattle.std.proofs.Common.{◌≡◌, ◌∙◌, refl, sym, subst, ap, arith}
-use Rattle.msc_unfolding.specs.Unfoldings.{Happening, past_level}
-use Rattle.chart_term.specs.Terms.{Tree}
+use Rattle.msc_unfolding.specs.Unfoldings.{past_level}
 use Rattle.term_meaning.specs.Portions.{Shown, past_shown}
 use Rattle.msc_tree.specs.Expressions.{Expression, Empty, Chart, Alt, Par, Seq, Opt, Expressions, none, more}
 use Rattle.msc_tree.specs.Expressions as expression

@@ -1,16 +1,15 @@
 -- The events that the term of an expansion holds, also in its nets, are the expansion's; and a walk is sound where its net is among sound
 -- ones.
 use Rattle.std.specs.Option.{unwrap_or}
-use Rattle.std.specs.Prelude.{ℕ, zero, suc, ◌≤◌, ◌≢◌, Bool, true, false, not, ◌&&◌, List, [], ◌∷◌, ◌++◌, ◌≡◌, Option, None, Some, length}
-use Rattle.std.proofs.Common.{refl, sym, subst, ap, inl, inr, ◌⊎◌, arith}
+use Rattle.std.specs.Prelude.{ℕ, zero, suc, ◌≤◌, Bool, true, false, not, ◌&&◌, List, [], ◌∷◌, ◌++◌, ◌≡◌, Option, None, Some}
+use Rattle.std.proofs.Common.{refl, sym, subst, inl, inr, ◌⊎◌, arith}
 use Rattle.msc_base.specs.Orders.{Among, first}
-use Rattle.msc_base.specs.Patterns.{Mode, seq, par, event_at}
+use Rattle.msc_base.specs.Patterns.{Mode, seq, par}
 use Rattle.hmsc_graph.specs.declared.shape.Shape.{Shape}
 use Rattle.hmsc_graph.specs.Graphs.{Start, End}
 use Rattle.chart_term.specs.NormalForms.{join_all, choice_of, is_nil, numbers, tie_of}
 use Rattle.chart_term.specs.Properties.{Each, MayHave}
 use Rattle.chart_term.specs.TermMeanings.{HasPattern}
-use Rattle.chart_term.specs.TermPatterns.{numbered}
 use Rattle.chart_term.specs.Tables.{NetEntry, Tables, net_count, node_of, nth_tree, terms_over}
 use Rattle.chart_term.specs.Terms.{TermEvent, has, Tree, Nil, Event, Walk}
 use Rattle.chart_term.specs.Views.{pairs_of}
@@ -20,7 +19,7 @@ use Rattle.sound_terms.specs.TermRanks.{Holds, HoldsOne, inside_event, inside_th
 use Rattle.sound_terms.proofs.Ordering.{among_left, among_right}
 use Rattle.sound_terms.proofs.RankedTerms.{has_at}
 use Rattle.term_laws.specs.FullSoundness.{AreSoundNets, ConstructorsKeepSoundness, IsSoundNode, fresh_walk}
-use Rattle.term_laws.specs.Soundness.{AreTidyTables, IsOutside, Lacks, NetLacks}
+use Rattle.term_laws.specs.Soundness.{AreTidyTables, Lacks, NetLacks}
 use Rattle.term_laws.proofs.FullSound.{tidy_tables}
 use Rattle.expansion_tree.specs.Expansions.{Event as event, InRow, Aside, OneOf, Exception, Turns, Tied, Walk as walked, no_parts, part_and, is_exception}
 use Rattle.expansion_tree.specs.Numbered.{Expansion, Expansions}
@@ -36,7 +35,7 @@ use Rattle.expanded_terms.proofs.Bare.{bare_join, bare_choice, bare_tie, one_the
 use Rattle.expanded_terms.proofs.ExpansionEvents.{named, term_events, all_term_events, number_among}
 use Rattle.expanded_terms.proofs.KeptParts.{choice_has, join_has, lacks_by_parts, lacks_outside, tie_has}
 use Rattle.expanded_terms.proofs.LoopTurns.{bare_turns}
-use Rattle.expanded_terms.proofs.NetParts.{counted, net_lacks, node_there, sound_above, sound_below, walk_forms}
+use Rattle.expanded_terms.proofs.NetParts.{net_lacks, node_there, sound_above, sound_below, walk_forms}
 use Rattle.expanded_terms.proofs.NodeOrders.{node_orders, order_keys}
 use Rattle.expanded_terms.proofs.RankedTrees.{join_held, choice_held, tie_held, turns_held}
 

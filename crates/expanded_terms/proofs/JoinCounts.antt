@@ -6,8 +6,7 @@ use Rattle.std.specs.Str.{bytes_eq}
 use Rattle.std.proofs.Common.{◌≡◌, refl, sym, ◌∙◌, ap, subst, arith, length-append}
 use Rattle.std.proofs.lemmas.Nat.{mul-le}
 use Rattle.std.proofs.lemmas.Slice.Eq.{bytes_eq-Decides}
-use Rattle.msc_unfolding.specs.Unfoldings.{Tag, Own, Via, On, Happening, past_level}
-use Rattle.chart_term.specs.Terms.{Tree}
+use Rattle.msc_unfolding.specs.Unfoldings.{Tag, Own, Via, On, past_level}
 use Rattle.term_meaning.specs.Portions.{Shown, shown_at, past_shown}
 use Rattle.msc_tree.specs.declared.event.Target.{Target}
 use Rattle.msc_tree.specs.declared.event.Target.TheVariants as target

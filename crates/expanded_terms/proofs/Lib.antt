@@ -30,13 +30,14 @@ mod WorkedExpansion
 mod WorkedTerms
 mod WorkedPremises
 mod PlacedTerms
-mod TermWeights
+pub mod TermWeights
 mod FewPairs
 mod ShownAnywhere
 mod DecomposedOnce
 mod RefinedCounts
 mod JoinCounts
 mod LightCharts
+mod HeldWeights
 mod WholeCharts
 mod DeeperCharts
 mod NamedEvents

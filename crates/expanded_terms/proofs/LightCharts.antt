@@ -5,8 +5,8 @@ use Rattle.std.proofs.Common.{◌≡◌, refl, sym, ◌∙◌, ap, arith}
 use Rattle.std.proofs.Math.Nat.{mul_comm}
 use Rattle.msc_base.specs.declared.label.Kind.{Kind}
 use Rattle.msc_base.specs.declared.label.Kind.TheVariants as kind
-use Rattle.msc_unfolding.specs.Unfoldings.{Tag, On, Happening}
-use Rattle.chart_term.specs.Terms.{Tree, weight}
+use Rattle.msc_unfolding.specs.Unfoldings.{Tag, On}
+use Rattle.chart_term.specs.Terms.{weight}
 use Rattle.chart_forms.specs.TableSizes.{size_to}
 use Rattle.gate_ends.specs.FoundEnds.{inner_to}
 use Rattle.gate_ends.specs.JoinCounts.{reference_count}
@@ -26,6 +26,7 @@ use Rattle.msc_meaning.specs.InnerEvents.{GateEnd}
 use Rattle.msc_meaning.specs.Refinements.{refining_by, refinings, is_decomposed, without_decomposed}
 use Rattle.msc_meaning.specs.Tables.{Table, ChartEntry, chart_at, body_at, Woven, Basic, HighLevel, Refinement, refinements}
 use Rattle.msc_meaning.specs.Ties.{in_order, tie_by, join_tie, joins_ties, items_joins_ties, ties}
+use Rattle.expanded_terms.specs.NetWeights.{held_to}
 use Rattle.expanded_terms.specs.ExpandedSizes.{AreLeavesLight, HaveFewInLines, HasFewInNode, HaveFewInFrames, HasFewInExpression, HaveFewInExpressions, HasFewPairs, HaveFewPairs, HasFewWithin, EachHasFew, HaveFewInRefinings, HasFewInWoven, HasFewInEntry, HasFewTo}
 use Rattle.expanded_terms.specs.ExpandedTerms.{node_count, graph_count, Leaves, Charts, charts_to, items_shown, expression_count, items_count, item_count, level_count}
 use Rattle.expanded_terms.specs.FewPairs.{products}
@@ -181,7 +182,7 @@ charts_few leaves ends_of table (suc k) name n h =
     entry_few (charts_to leaves ends_of table k) (charts_same leaves ends_of table k) ends_of (IsFewTo table k) (HasFewTo leaves (λ j. product_in (charts_to leaves ends_of table j)) ends_of table k) (charts_few leaves ends_of table k) table n (chart_at table name) h
 
 charts_weigh : ConstructorsWeigh → (leaves : Leaves) (ends_of : WovenItems → List GateEnd) (table : Table) (depth : ℕ) (name : List ℕ) (gates : GateMap) (n : ℕ) → AreLeavesLight leaves → IsFewTo table depth name
-    → weight ((charts_to leaves ends_of table depth).term name gates n) ≤ size_to (λ k. product_in (charts_to leaves ends_of table k)) table depth name
+    → weight ((charts_to leaves ends_of table depth).term name gates n) + held_to leaves ends_of table depth name gates n ≤ size_to (λ k. product_in (charts_to leaves ends_of table k)) table depth name
 charts_weigh weigh leaves ends_of table depth name gates n one few = (expanded_terms_weigh weigh).weighs leaves (λ k. product_in (charts_to leaves ends_of table k)) ends_of table depth name gates n one (charts_few leaves ends_of table depth name n few)
 
 below : (a b c : ℕ) → a ≤ b → b ≤ c → a ≤ c
@@ -191,6 +192,6 @@ pub charts_are_light : ConstructorsWeigh → ChartsAreLight
 charts_are_light weigh = record {
   light = charts_weigh weigh;
   counted = λ leaves ends_of table depth name gates n one few.
-      below (weight ((charts_to leaves ends_of table depth).term name gates n)) (size_to (λ k. product_in (charts_to leaves ends_of table k)) table depth name) (size_to (λ k. reference_count (inner_to table k)) table depth name)
+      below (weight ((charts_to leaves ends_of table depth).term name gates n) + held_to leaves ends_of table depth name gates n) (size_to (λ k. product_in (charts_to leaves ends_of table k)) table depth name) (size_to (λ k. reference_count (inner_to table k)) table depth name)
       (charts_weigh weigh leaves ends_of table depth name gates n one few) (charts_counted leaves ends_of table depth name few);
 }

@@ -1,14 +1,12 @@
 -- Numbers that are in no net of a term, and numbers of which a tag is still to be seen.
-use Rattle.std.specs.List.{flat_map}
-use Rattle.std.specs.Prelude.{ℕ, zero, suc, ◌<◌, ◌≤◌, ◌==◌, Bool, true, false, not, ◌&&◌, List, [], ◌∷◌, ◌++◌, Option, Some}
-use Rattle.std.proofs.Common.{◌≡◌, ◌⊎◌, refl, sym, ap, inl, inr, subst, arith}
+use Rattle.std.specs.Prelude.{ℕ, ◌==◌, Bool, true, false, not, ◌&&◌, List, [], ◌∷◌, ◌++◌, Option, Some}
+use Rattle.std.proofs.Common.{◌≡◌, ◌⊎◌, refl, ap, inl, inr, subst}
 use Rattle.std.proofs.lemmas.Bool.{cases_lt}
 use Rattle.std.proofs.lemmas.Bool.Decides.{Decides-eqb}
 use Rattle.msc_base.specs.Orders.{Among, first, later}
 use Rattle.msc_unfolding.specs.Unfoldings.{Tag, is_same_tag}
 use Rattle.chart_term.specs.NormalForms.{is_nil}
 use Rattle.chart_term.specs.Properties.{Each, Every, EveryOf, EveryRow}
-use Rattle.chart_term.specs.Tables.{Tables}
 use Rattle.chart_term.specs.TermPatterns.{InPairs}
 use Rattle.chart_term.specs.Terms.{TermEvent, Tree, Nil, Event, Join, Choice, Tied, Loop, Walk, Trees, none, more, Row, ends, gap, turn}
 use Rattle.sound_terms.specs.Intervals.{IsInside, IsBeyond}

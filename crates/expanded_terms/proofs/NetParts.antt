@@ -1,9 +1,9 @@
 -- A net among the nets of tables: its graph, its node terms, and the numbers that it lacks.
 use Rattle.std.specs.Option.{unwrap_or}
-use Rattle.std.specs.Prelude.{ℕ, zero, suc, ◌<◌, ◌==◌, ◌≢◌, ◌++◌, Bool, true, false, List, [], ◌∷◌, ◌≡◌, Option, None, Some}
+use Rattle.std.specs.Prelude.{ℕ, ◌<◌, ◌==◌, ◌≢◌, ◌++◌, Bool, true, false, List, [], ◌∷◌, ◌≡◌}
 use Rattle.std.proofs.Common.{ap, sym, ◌∙◌, refl, arith, subst}
 use Rattle.std.proofs.lemmas.Bool.Decides.{Decides-eqb}
-use Rattle.hmsc_graph.specs.Graphs.{Net, Start, Goal, To, End, Any, reach}
+use Rattle.hmsc_graph.specs.Graphs.{Start, Goal, To, End, Any, reach}
 use Rattle.chart_term.specs.NormalForms.{allowed, are_nil, cut, walk_form}
 use Rattle.chart_term.specs.Properties.{Each, Every, EveryOf, EveryRow, IsBelow}
 use Rattle.chart_term.specs.Tables.{NetEntry, Tables, choose, net_count, net_of, node_of, nth_tree}

@@ -1,6 +1,6 @@
 -- The rules of parts: two of them joined or one chosen, alternatives, turns, a part whose tags change, and a part below a tie.
 use Rattle.std.specs.Prelude.{ℕ, ◌≤◌, ◌<◌, ◌≢◌, false, Bool, List, [], ◌∷◌, ◌++◌, Option, Some}
-use Rattle.std.proofs.Common.{◌≡◌, ◌⊎◌, refl, sym, ◌∙◌, subst, ap, inl, inr, arith}
+use Rattle.std.proofs.Common.{◌≡◌, refl, sym, ◌∙◌, subst, ap, inl, inr, arith}
 use Rattle.msc_base.specs.declared.label.Label.{Label}
 use Rattle.msc_base.specs.Orders.{Once}
 use Rattle.msc_base.specs.Patterns.{Mode, join, empty}

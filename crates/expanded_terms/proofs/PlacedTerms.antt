@@ -1,5 +1,4 @@
 -- The events of a chart's term stand where their labels say.
-use Rattle.std.specs.List.{slice_get}
 use Rattle.std.specs.Option.{unwrap_or}
 use Rattle.std.specs.Prelude.{ℕ, Bool, true, false, List, Option, None, Some, nat_lt}
 use Rattle.std.proofs.Common.{◌≡◌, ◌∙◌, refl, sym, ap}

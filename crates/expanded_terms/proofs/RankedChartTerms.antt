@@ -25,7 +25,7 @@ use Rattle.expanded_terms.specs.NamedEvents.{IsNameable, event_named}
 use Rattle.expanded_terms.specs.RankedTerms.{expanded_number, numbers_in, EachTie, EachTies, IsOutsideLoops, IsOwn}
 use Rattle.expanded_terms.proofs.ExpansionNumbers.{expansions_are_numbered}
 use Rattle.expanded_terms.proofs.NamedEvents.{named_number, named_label}
-use Rattle.expanded_terms.proofs.TiesWithin.{IsWithin, ties_within}
+use Rattle.expanded_terms.proofs.TiesWithin.{IsWithin}
 
 -- ---- other events
 

@@ -1,9 +1,8 @@
 -- Soundness of the term of an expansion that can be ranked, construct by construct. Outside a loop all its events have the rank of the
 -- whole loop.
-use Rattle.std.specs.Prelude.{ℕ, ◌+◌, ◌<◌, ◌==◌, ◌&&◌, ◌||◌, Bool, true, false, List, [], ◌∷◌, ◌++◌, Option, Some, None, length, map, nat_lt}
+use Rattle.std.specs.Prelude.{ℕ, ◌+◌, ◌<◌, ◌==◌, ◌&&◌, ◌||◌, Bool, true, false, List, [], ◌∷◌, ◌++◌, Option, Some, None, length, nat_lt}
 use Rattle.std.proofs.Common.{◌≡◌, ◌⊎◌, length-append, refl, sym, ◌∙◌, subst, ap, inl, inr, arith}
 use Rattle.std.proofs.lemmas.Bool.Decides.{Decides-eqb, Decides-ltb}
-use Rattle.std.proofs.lemmas.List.{map-append}
 use Rattle.msc_base.specs.declared.label.Pair.{Pair}
 use Rattle.msc_base.specs.Orders.{Among, first, later}
 use Rattle.msc_base.specs.Patterns.{seq, par}
@@ -30,9 +29,9 @@ use Rattle.expansion_terms.specs.Constructors.{one_of, placed}
 use Rattle.expansion_tree.specs.Walks.{EachWalk, EachWalkIn}
 use Rattle.expansion_terms.specs.MadeTerms.{IsWalkOf}
 use Rattle.expansion_terms.specs.ExpansionTerms.{numbered_term, event_term, row_term, aside_term, part_terms}
-use Rattle.expanded_terms.specs.ExpansionNumbers.{CountFrom, numbers_by, all_numbers_by}
-use Rattle.expanded_terms.specs.RankedTerms.{expanded_number, numbers_in, looped_in, all_looped_in, IsOwn, EachTie, EachTies, RankedExpansionsAreSound}
-use Rattle.expanded_terms.specs.SoundParts.{IsSoundPart, AreSoundParts, numbers_of}
+use Rattle.expanded_terms.specs.ExpansionNumbers.{CountFrom}
+use Rattle.expanded_terms.specs.RankedTerms.{looped_in, all_looped_in, IsOwn, EachTie, EachTies, RankedExpansionsAreSound}
+use Rattle.expanded_terms.specs.SoundParts.{IsSoundPart, AreSoundParts}
 use Rattle.expanded_terms.proofs.CountedNumbers.{count_front, count_rest, count_inside}
 use Rattle.expanded_terms.proofs.SoundRules.{sound_nothing, sound_until, sound_event, sound_front, sound_two, sound_none, sound_some, sound_chosen, sound_tied, sound_turns}
 use Rattle.expanded_terms.proofs.ExpansionEvents.{named, term_events, all_term_events, nums, all_nums, same_events, same_numbers, all_same_numbers, split_among, unmap, event_of_number, number_among, number_in, number_in_all}

@@ -2,8 +2,7 @@
 use Rattle.std.specs.Prelude.{ℕ, zero, suc, ◌+◌, List, [], ◌∷◌, ◌++◌, Option, None, Some, map}
 use Rattle.std.specs.List.{flat_map}
 use Rattle.std.proofs.Common.{◌≡◌, refl, sym, ◌∙◌, ap}
-use Rattle.msc_unfolding.specs.Unfoldings.{Tag, Own, Happening, past_level}
-use Rattle.chart_term.specs.Terms.{Tree}
+use Rattle.msc_unfolding.specs.Unfoldings.{Tag, Own, past_level}
 use Rattle.term_meaning.specs.Portions.{Shown, shown_at, past_shown}
 use Rattle.msc_tree.specs.Expressions.{Expression, Empty, Chart, Alt, Par, Seq, Opt, Expressions, none, more}
 use Rattle.msc_tree.specs.Expressions as expression

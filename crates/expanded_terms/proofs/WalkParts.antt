@@ -1,8 +1,7 @@
 -- A walk through the net of a graph, whose nodes have terms that mean what its nodes do, means the finished walks of the graph.
 use Rattle.std.specs.Option.{unwrap_or}
-use Rattle.std.specs.Prelude.{ℕ, zero, suc, ◌<◌, ◌≤◌, ◌≢◌, ◌++◌, Bool, true, false, List, [], ◌∷◌, ◌≡◌, Option, None, Some, length, map}
-use Rattle.std.proofs.Common.{ap, sym, ◌∙◌, refl, subst, inl, inr, arith}
-use Rattle.std.proofs.lemmas.Option.{same_Some}
+use Rattle.std.specs.Prelude.{ℕ, zero, suc, ◌<◌, ◌≤◌, ◌++◌, Bool, false, List, [], ◌∷◌, ◌≡◌, Option, None, Some, length, map}
+use Rattle.std.proofs.Common.{ap, sym, ◌∙◌, refl, subst, inl, arith}
 use Rattle.msc_base.specs.declared.label.LabelRef.{LabelRef}
 use Rattle.msc_base.specs.Lists.{IsIn}
 use Rattle.msc_base.specs.Orders.{Once}
@@ -12,8 +11,8 @@ use Rattle.hmsc_graph.specs.declared.shape.ShapeLine.{ShapeLine}
 use Rattle.hmsc_graph.specs.Graphs.{Net, Start, End, Any, WalkThrough}
 use Rattle.hmsc_graph.specs.Nets.{size_of}
 use Rattle.hmsc_graph.specs.Shapes.{AreNumbers}
-use Rattle.chart_term.specs.Properties.{Each, Every, MayHave}
-use Rattle.chart_term.specs.Tables.{NetEntry, Tables, count_from, net_count, net_of, node_of, nodes_of, nth_tree, terms_over}
+use Rattle.chart_term.specs.Properties.{Each, MayHave}
+use Rattle.chart_term.specs.Tables.{NetEntry, Tables, net_count, net_of, node_of, nodes_of, nth_tree, terms_over}
 use Rattle.chart_term.specs.TermMeanings.{HasPattern, PatternsOf}
 use Rattle.chart_term.specs.TermPatterns.{Shape as Pattern, Both, same, on}
 use Rattle.chart_term.specs.Terms.{Tree, Nil, Walk}

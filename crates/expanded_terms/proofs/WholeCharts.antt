@@ -1,14 +1,12 @@
 -- A chart that is whole by its text is fit where each event of its expansion can be named, and each walk is one of its graph.
-use Rattle.std.specs.Prelude.{ℕ, zero, suc, ◌+◌, false, List, [], ◌∷◌, ◌++◌, Option, Some}
-use Rattle.std.proofs.Common.{◌≡◌, sym, subst}
+use Rattle.std.specs.Prelude.{ℕ, zero, suc, ◌+◌, false, List, [], ◌∷◌, Option}
+use Rattle.std.proofs.Common.{subst}
 use Rattle.msc_base.specs.declared.label.Far.{Far}
-use Rattle.msc_base.specs.declared.label.Label.{Label}
 use Rattle.msc_base.specs.Orders.{Among, first, later}
 use Rattle.msc_unfolding.specs.Unfoldings.{Happening}
 use Rattle.msc_base.specs.declared.label.LabelRef.{LabelRef}
 use Rattle.hmsc_graph.specs.declared.shape.Shape.{Shape}
 use Rattle.graph_shapes.specs.GraphShapes.{shape_of}
-use Rattle.chart_term.specs.Tables.{Tables}
 use Rattle.chart_term.specs.Terms.{Tree}
 use Rattle.sound_terms.proofs.Ordering.{among_left, among_right}
 use Rattle.msc_tree.specs.declared.reference.InlineForm.{InlineForm}
@@ -30,7 +28,7 @@ use Rattle.expansion_tree.specs.Walks.{EachWalk, EachWalkIn}
 use Rattle.expanded_charts.specs.Expanding as expanding
 use Rattle.expanded_charts.specs.Expanding.{NumberedEvent, Expanded, ExpandedParts, expand_events, expand, expand_all, expand_level, expand_items, expand_item, expand_operands, expand_refinings, expand_graph, expand_lines, expand_node, expand_frames, expand_woven, expand_entry, expand_charts}
 use Rattle.expansion_terms.specs.ExpansionTerms.{part_terms}
-use Rattle.expanded_terms.specs.ExpandedTerms.{Charts, Leaves, charts_to, expression_count, item_count, items_count, level_count, graph_count, node_count, lines_terms}
+use Rattle.expanded_terms.specs.ExpandedTerms.{Charts, Leaves, charts_to}
 use Rattle.expanded_terms.specs.ExpansionLaws.{event_by}
 use Rattle.expanded_terms.specs.FitBodies.{AreFitEvents, IsFitExpression, AreFitExpressions, IsFitLevel, AreFitItems, IsFitItem, AreFitOperands, AreFitRefinings, IsFitGraph, AreFitLines, IsFitNode, AreFitFrames, IsFitWoven, HasFitEntry, IsFitTo}
 use Rattle.expanded_terms.specs.GraphWalks.{IsGraphWalk}

@@ -1,23 +1,21 @@
 -- A graph with few lines, in which no label is unknown or stands twice, has its net, whose edges lead to its lines.
-use Rattle.std.specs.List.{cons_option, filter_map, flat_map, list_any, position, slice_get}
+use Rattle.std.specs.List.{cons_option, flat_map, list_any, slice_get}
 use Rattle.std.specs.Option.{is_some}
 use Rattle.std.specs.Str.{bytes_eq}
-use Rattle.std.specs.Prelude.{ℕ, zero, suc, ◌<◌, ◌≤◌, Bool, true, false, List, [], ◌∷◌, ◌++◌, Option, None, Some, length, map}
+use Rattle.std.specs.Prelude.{ℕ, zero, suc, ◌<◌, true, false, List, [], ◌∷◌, ◌++◌, Option, None, Some, length, map}
 use Rattle.std.proofs.Common.{◌≡◌, ◌∙◌, refl, sym, ap, ap₂, subst, inl, inr, arith, get_or}
 use Rattle.std.proofs.lemmas.Bool.{or_left, or_right}
 use Rattle.std.proofs.lemmas.List.{length-map}
 use Rattle.std.proofs.lemmas.Option.{same_Some}
 use Rattle.std.proofs.lemmas.Slice.Eq.{bytes_eq-Decides}
 use Rattle.msc_base.specs.declared.label.LabelRef.{LabelRef}
-use Rattle.msc_base.specs.declared.limits.TheConstants.Limits.{NODE_LINES}
 use Rattle.msc_base.specs.declared.place.Place.{Place}
 use Rattle.msc_base.specs.Lists.{IsIn}
-use Rattle.hmsc_graph.specs.declared.shape.Shape.{Shape}
 use Rattle.hmsc_graph.specs.declared.shape.ShapeLine.{ShapeLine}
-use Rattle.hmsc_graph.specs.Shapes.{AreNext, AreNumbers, HasLabel, IsFaulty, IsUnknown, line_number}
+use Rattle.hmsc_graph.specs.Shapes.{AreNext, AreNumbers, HasLabel, IsUnknown, line_number}
 use Rattle.hmsc_graph.proofs.LabelFacts.{is_some-position, position_below}
-use Rattle.expansion_terms.specs.MadeTerms.{net_of_shape, numbers_of}
-use Rattle.expanded_terms.specs.GraphWalks.{IsWholeNet, NetsAreWhole}
+use Rattle.expansion_terms.specs.MadeTerms.{numbers_of}
+use Rattle.expanded_terms.specs.GraphWalks.{NetsAreWhole}
 
 module _ (lines : List ShapeLine) where
   abbrev names : List (List ℕ)

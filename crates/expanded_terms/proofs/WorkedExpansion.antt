@@ -1,9 +1,8 @@
 -- The worked chart meets what the laws ask.
-use Rattle.std.specs.Prelude.{◌==◌, ◌&&◌, ◌||◌, ℕ, Bool, true, false, List, [], ◌∷◌, codes}
+use Rattle.std.specs.Prelude.{[], codes}
 use Rattle.std.proofs.Common.{◌≡◌, refl, sym, subst, arith}
-use Rattle.std.proofs.lemmas.Bool.Decides.{Decides-eqb}
 use Rattle.std.proofs.lemmas.Option.{same_Some}
-use Rattle.msc_base.specs.Orders.{Among, first, later}
+use Rattle.msc_base.specs.Orders.{first, later}
 use Rattle.msc_tree.specs.Expressions.{Chart}
 use Rattle.msc_meaning.specs.Bodies.{Body, WovenItems}
 use Rattle.msc_meaning.specs.InnerEvents.{InnerEvent, here, in_chart, IsInner, own, inside, passed, IsInnerOfExpression, of_chart, IsInnerOf, of_inline, of_reference, no_ends, end_and}
@@ -11,9 +10,8 @@ use Rattle.msc_meaning.specs.MeaningLaws.{HaveOneEnd}
 use Rattle.msc_meaning.specs.Tables.{Table}
 use Rattle.msc_meaning.specs.WorkedCharts as worked
 use Rattle.msc_meaning.specs.WorkedCharts.{g, h}
-use Rattle.msc_unfolding.specs.Unfoldings.{Tag, Own, On}
 use Rattle.msc_meaning.proofs.KnownEnds.{one_call}
-use Rattle.expanded_terms.specs.WorkedExpansion.{GateExpands, worked_names, worked_labels, worked_ends}
+use Rattle.expanded_terms.specs.WorkedExpansion.{GateExpands}
 
 gate_inner : {table : Table} {e : InnerEvent} → IsInner table worked.gate_body g e → e.node ≡ worked.gate_in
 gate_inner (own first e) = refl

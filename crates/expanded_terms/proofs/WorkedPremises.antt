@@ -1,10 +1,10 @@
 -- The worked charts meet what the laws ask.
 use Rattle.std.specs.Prelude.{ℕ, Bool, true, false, List, [], ◌∷◌, Option, None, Some, codes}
 use Rattle.std.specs.Str.{bytes_eq}
-use Rattle.std.proofs.Common.{◌≡◌, refl, sym, ◌∙◌, ap, subst, arith}
+use Rattle.std.proofs.Common.{◌≡◌, refl, sym, ap, subst, arith}
 use Rattle.std.proofs.lemmas.Option.{same_Some}
 use Rattle.msc_base.specs.Orders.{Among, first, later}
-use Rattle.msc_unfolding.specs.Unfoldings.{Happening, Tag, Own, Via, On}
+use Rattle.msc_unfolding.specs.Unfoldings.{Happening, Own, Via}
 use Rattle.msc_tree.specs.declared.event.Target.{Target}
 use Rattle.msc_tree.specs.declared.event.Target.TheVariants.{Env}
 use Rattle.msc_tree.specs.Expressions.{Chart}

@@ -1,7 +1,5 @@
 -- What is counted and shown of a chart that is whole so deep is the same at each greater depth: so it can be worked out once for each chart.
 use Rattle.std.specs.Prelude.{◌≡◌, ◌≤◌, ℕ, List}
-use Rattle.msc_unfolding.specs.Unfoldings.{Happening}
-use Rattle.chart_term.specs.Terms.{Tree}
 use Rattle.msc_meaning.specs.Bodies.{WovenItems}
 use Rattle.msc_meaning.specs.InnerEvents.{GateEnd}
 use Rattle.msc_meaning.specs.Tables.{Table}

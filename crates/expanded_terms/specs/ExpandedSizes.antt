@@ -2,7 +2,7 @@
 -- joins leave room for. Then a chart's term weighs no more than the chart's expanded size.
 use Rattle.std.specs.Prelude.{◌≡◌, ◌≤◌, ℕ, zero, suc, ◌+◌, List, [], ◌∷◌, Option, None, Some, length, true, if◌then◌else◌}
 use Rattle.msc_unfolding.specs.Unfoldings.{Tag, Own, Via, On, Happening}
-use Rattle.chart_term.specs.Terms.{Tree, weight}
+use Rattle.chart_term.specs.Terms.{weight}
 use Rattle.term_meaning.specs.Portions.{Shown}
 use Rattle.chart_forms.specs.TableSizes.{size_to}
 use Rattle.general_ordering.specs.OrderCounts.{order_count, orders_count}
@@ -19,6 +19,7 @@ use Rattle.msc_meaning.specs.Tables.{Table, ChartEntry, chart_at, Woven, Basic, 
 use Rattle.msc_meaning.specs.Ties.{ties}
 use Rattle.expanded_terms.specs.ExpandedTerms.{Leaves, graph_count, node_count, Charts, charts_to, expression_shown, level_shown, items_shown, operands_shown, refined_shown, woven_shown, expression_count, items_count, item_count, level_count}
 use Rattle.chart_forms.specs.BuiltBodies.{has_operands}
+use Rattle.expanded_terms.specs.NetWeights.{held_to}
 use Rattle.expanded_terms.specs.TagNumbers.{tied_numbers}
 
 -- ---- open gates
@@ -140,8 +141,8 @@ pub record AreLeavesLight (leaves : Leaves) : Type 0 where
   pub events : (i : ℕ) (h : Happening) → weight (leaves.event i h) ≤ 1
   pub walks : (i : ℕ) → weight (leaves.walk i) ≤ 1
 
--- the term of a chart weighs no more than the chart's expanded size, where each level has few pairs
+-- the term of a chart weighs, with the terms of the nodes of its walks, no more than the chart's expanded size, where each level has few pairs
 pub record ExpandedTermsWeigh : Type 0 where
   pub weighs : (leaves : Leaves) (product : ℕ → WovenItems → ReferencePart → ℕ) (ends_of : WovenItems → List GateEnd) (table : Table) (depth : ℕ) (name : List ℕ) (gates : GateMap) (n : ℕ)
       → AreLeavesLight leaves → HasFewTo leaves product ends_of table depth name n
-      → weight ((charts_to leaves ends_of table depth).term name gates n) ≤ size_to product table depth name
+      → weight ((charts_to leaves ends_of table depth).term name gates n) + held_to leaves ends_of table depth name gates n ≤ size_to product table depth name

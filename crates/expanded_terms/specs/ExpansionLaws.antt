@@ -1,6 +1,5 @@
 -- The terms of charts are those of their expansions.
 use Rattle.std.specs.Prelude.{◌≡◌, ◌+◌, ℕ, List}
-use Rattle.msc_unfolding.specs.Unfoldings.{Happening}
 use Rattle.chart_term.specs.Terms.{Tree}
 use Rattle.msc_meaning.specs.Bodies.{WovenItems}
 use Rattle.msc_meaning.specs.FarEnds.{GateMap}
@@ -10,6 +9,7 @@ use Rattle.msc_tree.specs.Graphs.{Lines}
 use Rattle.expanded_charts.specs.Expanding.{NumberedEvent, expand_charts, expand_lines}
 use Rattle.expansion_terms.specs.ExpansionTerms.{expansion_term, part_terms}
 use Rattle.expanded_terms.specs.ExpandedTerms.{Leaves, charts_to, lines_terms}
+use Rattle.expanded_terms.specs.NetWeights.{held_in, held_to}
 
 -- the term of an event
 abbrev pub event_by : Leaves → NumberedEvent → Tree
@@ -27,3 +27,8 @@ pub record ExpansionsHaveTerms : Type 0 where
       → (expand_charts ends_of table depth name gates n).shown ≡ (charts_to leaves ends_of table depth).shown name n
   pub next : (leaves : Leaves) (ends_of : WovenItems → List GateEnd) (table : Table) (depth : ℕ) (name : List ℕ) (gates : GateMap) (n : ℕ)
       → (expand_charts ends_of table depth name gates n).next ≡ n + (charts_to leaves ends_of table depth).count name
+
+-- what the walks of a chart's expansion hold is what those of its text hold
+pub record ExpansionsHold : Type 0 where
+  pub held : (leaves : Leaves) (ends_of : WovenItems → List GateEnd) (table : Table) (depth : ℕ) (name : List ℕ) (gates : GateMap) (n : ℕ)
+      → held_in (event_by leaves) leaves.walk (expand_charts ends_of table depth name gates n).part ≡ held_to leaves ends_of table depth name gates n

@@ -1,10 +1,8 @@
 -- Why a level has few pairs, through all levels: an event is in one message pair at most and then names no gate; a gate is called by one
 -- event at most; and an inner event of a gate is tied on one level only.
 use Rattle.std.specs.Prelude.{◌≤◌, ℕ, ◌+◌, List, [], ◌∷◌, length, map}
-use Rattle.std.specs.List.{flat_map}
 use Rattle.msc_base.specs.declared.label.Pair.{Pair}
 use Rattle.msc_base.specs.Orders.{Once}
-use Rattle.msc_unfolding.specs.Unfoldings.{Tag, On}
 use Rattle.general_ordering.specs.OrderCounts.{orders_count}
 use Rattle.msc_meaning.specs.Bodies.{EventNode, ReferencePart, level, WovenItems, no_items, item_and, WovenItem, Single, Coregion, Inline, Refer, events}
 use Rattle.gate_ends.specs.LevelGates.{event_tags}

@@ -1,7 +1,7 @@
 -- What is asked of a body or a graph whose term is made: that the called gates of each level have their ends and no others, that inline
 -- expressions have as many operands as their form takes, that each event can be named where it stands, and that each walk goes through a
 -- net whose nodes have the terms of the graph's. Events and walks are numbered from n on.
-use Rattle.std.specs.Prelude.{◌≡◌, ◌+◌, ℕ, zero, suc, List, [], ◌∷◌, Some, true, length}
+use Rattle.std.specs.Prelude.{◌≡◌, ◌+◌, ℕ, zero, suc, List, [], ◌∷◌, Some, true}
 use Rattle.msc_base.specs.declared.label.Far.{Far}
 use Rattle.msc_unfolding.specs.Unfoldings.{Happening}
 use Rattle.chart_term.specs.Terms.{Tree}

@@ -1,5 +1,5 @@
 -- Tables in which no inner event of a called gate stands in a loop.
-use Rattle.std.specs.Prelude.{◌≡◌, ℕ, List, []}
+use Rattle.std.specs.Prelude.{◌≡◌, []}
 use Rattle.msc_base.specs.declared.limits.TheConstants.Limits.{EXPANDED_NESTING}
 use Rattle.msc_base.specs.Orders.{Among}
 use Rattle.gate_ends.specs.FoundEnds.{GoesTo, chart_gates, inner_of, looped}

@@ -1,5 +1,5 @@
 -- Walks through the nets of graphs: what is asked of the term of a walk for it to mean the graph's finished walks.
-use Rattle.std.specs.Prelude.{◌≡◌, ◌≤◌, ℕ, List, ◌∷◌, None, length}
+use Rattle.std.specs.Prelude.{◌≡◌, ◌≤◌, List, ◌∷◌, None, length}
 use Rattle.msc_base.specs.declared.label.LabelRef.{LabelRef}
 use Rattle.msc_base.specs.declared.limits.TheConstants.Limits.{NODE_LINES}
 use Rattle.msc_base.specs.declared.place.Place.{Place}

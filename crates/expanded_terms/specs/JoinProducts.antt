@@ -1,8 +1,8 @@
 -- What joins add to the size of a reference: the inner events of the one gate times those of the other, counted in the expansion; and that
 -- a chart and all that it names have few pairs, by their levels alone.
 use Rattle.std.specs.Prelude.{◌≡◌, ◌≤◌, ℕ, zero, suc, ◌+◌, ◌*◌, List, [], ◌∷◌, Option, None, Some, length, true}
-use Rattle.msc_unfolding.specs.Unfoldings.{Tag, On, Happening}
-use Rattle.chart_term.specs.Terms.{Tree, weight}
+use Rattle.msc_unfolding.specs.Unfoldings.{Tag, On}
+use Rattle.chart_term.specs.Terms.{weight}
 use Rattle.term_meaning.specs.Portions.{Shown}
 use Rattle.msc_tree.specs.declared.reference.Join.{Join}
 use Rattle.msc_tree.specs.declared.reference.JoinEnd.{JoinEnd}
@@ -23,6 +23,7 @@ use Rattle.expanded_terms.specs.ExpandedSizes.{AreLeavesLight}
 use Rattle.expanded_terms.specs.ExpandedTerms.{Leaves, Charts, charts_to, items_shown}
 use Rattle.expanded_terms.specs.FewPairs.{HasFewOwn}
 use Rattle.chart_forms.specs.BuiltBodies.{has_operands}
+use Rattle.expanded_terms.specs.NetWeights.{held_to}
 use Rattle.expanded_terms.specs.TagNumbers.{numbers_with}
 
 -- how many numbers have the tag
@@ -114,11 +115,11 @@ abbrev pub IsFewTo : Table → ℕ → List ℕ → Type 0
 IsFewTo table zero name = ⊥
 IsFewTo table (suc k) name = IsFewEntry (IsFewTo table k) table (chart_at table name)
 
--- then its term weighs no more than its expanded size, and so no more than with the inner events of gates counted in the table
+-- then its term weighs, with the terms of the nodes of its walks, no more than its expanded size, and so no more than with the inner events of gates counted in the table
 pub record ChartsAreLight : Type 0 where
   pub light : (leaves : Leaves) (ends_of : WovenItems → List GateEnd) (table : Table) (depth : ℕ) (name : List ℕ) (gates : GateMap) (n : ℕ)
       → AreLeavesLight leaves → IsFewTo table depth name
-      → weight ((charts_to leaves ends_of table depth).term name gates n) ≤ size_to (λ k. product_in (charts_to leaves ends_of table k)) table depth name
+      → weight ((charts_to leaves ends_of table depth).term name gates n) + held_to leaves ends_of table depth name gates n ≤ size_to (λ k. product_in (charts_to leaves ends_of table k)) table depth name
   pub counted : (leaves : Leaves) (ends_of : WovenItems → List GateEnd) (table : Table) (depth : ℕ) (name : List ℕ) (gates : GateMap) (n : ℕ)
       → AreLeavesLight leaves → IsFewTo table depth name
-      → weight ((charts_to leaves ends_of table depth).term name gates n) ≤ size_to (λ k. reference_count (inner_to table k)) table depth name
+      → weight ((charts_to leaves ends_of table depth).term name gates n) + held_to leaves ends_of table depth name gates n ≤ size_to (λ k. reference_count (inner_to table k)) table depth name

@@ -2,6 +2,7 @@ pub mod BareTerms
 pub mod ChartSets
 pub mod TagNumbers
 pub mod ExpandedTerms
+pub mod NetWeights
 pub mod FitBodies
 pub mod NamedEvents
 pub mod Parts

@@ -4,7 +4,7 @@
 
 ghost use Rattle.expanded_terms.specs.DeeperCharts.{DeeperIsSame};
 ghost use Rattle.expanded_terms.specs.ExpandedLaws.{ExpandedTermsMean};
-ghost use Rattle.expanded_terms.specs.ExpansionLaws.{ExpansionsHaveTerms};
+ghost use Rattle.expanded_terms.specs.ExpansionLaws.{ExpansionsHaveTerms, ExpansionsHold};
 ghost use Rattle.expanded_terms.specs.ExpansionNumbers.{ExpansionsAreNumbered};
 ghost use Rattle.expanded_terms.specs.ExpandedSizes.{ExpandedTermsWeigh};
 ghost use Rattle.expanded_terms.specs.RankedTerms.{RankedExpansionsAreSound};
@@ -44,6 +44,12 @@ pub fn expanded_terms_mean()
 #[tactic(auto, using(crate::proofs::ExpansionTerms::expansions_have_terms))]
 pub fn expansions_have_terms()
     ensures { ExpansionsHaveTerms }
+{}
+
+/// What the nodes of the walks of an expansion weigh together is told by the text of the chart and of those that it names.
+#[tactic(auto, using(crate::proofs::HeldWeights::expansions_hold))]
+pub fn expansions_hold()
+    ensures { ExpansionsHold }
 {}
 
 /// The events of an expansion are numbered one after another, so each number stands once.

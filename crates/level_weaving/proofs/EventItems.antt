@@ -10,13 +10,14 @@ use Rattle.level_weaving.specs.LonelyItems.{ItemLacksPartner}
 use Rattle.msc_meaning.specs.Pieces.{Piece}
 use Rattle.level_pieces.specs.ItemParts.{AreParts, has_events}
 use Rattle.chart_text.specs.Texts.{Side, behind}
-use Rattle.chart_text.specs.WellFormed.{is_at_one, is_well_formed_item}
+use Rattle.chart_text.proofs.StandingLaws.{left_test}
+use Rattle.chart_text.specs.WellFormed.{are_well_formed_events, is_at_one, is_well_formed_event, is_well_formed_item}
 use Rattle.level_weaving.specs.Answers.{ItemCrosses}
 use Rattle.level_weaving.proofs.LevelLaws.{empty_uncrossed}
 
 at_one_form : (side : Side) (f : Form) → is_well_formed_item side f ≡ true → has_events f ≡ true → is_at_one side ≡ true
-at_one_form side (Single e) h is = h
-at_one_form side (Coregion es) h is = h
+at_one_form side (Single e) h is = left_test (is_at_one side) (is_well_formed_event e) h
+at_one_form side (Coregion es) h is = left_test (is_at_one side) (are_well_formed_events es) h
 at_one_form side (Condition names shared) h is = cc
 at_one_form side (Inline head held) h is = cc
 at_one_form side (Refer r) h is = cc

@@ -5,7 +5,7 @@ use Rattle.msc_base.specs.Places.{IsLeast}
 use Rattle.msc_base.specs.declared.place.Place.{Place}
 use Rattle.msc_tree.specs.Charts.{Chart, Document}
 use Rattle.msc_rules.specs.declared.rule.Rule.{Rule}
-use Rattle.msc_rules.specs.declared.rule.Rule.TheVariants.{Bytes, BadByte, OpenString, OpenNote, LongName, Syntax, Unsupported, TooDeep, Charts, Instances, Nodes, LoopBound, NamedTwice, Undeclared, MissingChart, Recursive, Uncovered, ExpandedNesting, Size, Total, NotShared, OperandsDiffer, ExcPlace, Crossed, Unmatched, NoGate, GateTwice, GateWays, GateSplit, GateOnLoop, DecompositionMismatch, SharedPart, Inside, LocalEvent, UnknownEvent, EventNamedTwice, Cyclic, UnknownLabel, LabelNamedTwice, Endless, NotBuilt, CreatePlace, CreateTwice, AfterStop}
+use Rattle.msc_rules.specs.declared.rule.Rule.TheVariants.{Bytes, BadByte, OpenString, OpenNote, LongName, Syntax, Unsupported, TooDeep, Charts, Instances, Nodes, LoopBound, NamedTwice, Undeclared, MissingChart, Recursive, Uncovered, ExpandedNesting, Size, Total, NotShared, OperandsDiffer, ExcPlace, Crossed, Unmatched, NoGate, GateTwice, GateWays, GateSplit, GateOnLoop, DecompositionMismatch, SharedPart, Inside, LocalEvent, UnknownEvent, EventNamedTwice, Cyclic, UnknownLabel, LabelNamedTwice, Endless, CreatePlace, CreateTwice, AfterStop}
 use Rattle.msc_rules.specs.Rules.{group_of, number_of}
 use Rattle.msc_rules.specs.declared.first_fault.Broken.{Broken}
 use Rattle.msc_rules.specs.FirstFaults.{IsBest, IsInSome, AreGroups, IsFirst, IsFaultless, Keeps}
@@ -23,71 +23,69 @@ use Rattle.msc_acceptance.specs.Acceptance.{Breaks, BreaksOf, HasFault, IsAccept
 use Rattle.msc_acceptance.specs.ChartFaults.{CrossesAt, IsAloneAt, IsCyclicAt}
 use Rattle.msc_acceptance.proofs.GroupLaws.{one_best}
 use Rattle.graph_rules.specs.GraphRules.{labels}
-use Rattle.msc_acceptance.specs.Deciding.{AllKept, IsFirstOf, body_groups, all_groups, endings, graph_groups, link_groups, table_groups, text_groups, forms, limits, names, references, sizes, parts, columns, messages, gates, decompositions, event_names, gate_groups, cycles}
+use Rattle.msc_acceptance.specs.Deciding.{AllKept, IsFirstOf, body_groups, all_groups, endings, graph_groups, link_groups, table_groups, text_groups, limits, names, references, sizes, parts, columns, messages, gates, decompositions, event_names, gate_groups, cycles}
 use Rattle.msc_acceptance.specs.Rules.{InOne}
 
 -- ---- numbers and groups
 
 -- what holds of the rules that are looked at holds of each that is in a group
-each_rule : (P : Rule → Type 0) → P NotBuilt → P Charts → P Instances → P Nodes → P LoopBound → P NamedTwice → P Undeclared → P MissingChart → P Recursive → P Uncovered → P ExpandedNesting → P Size → P Total → P NotShared → P OperandsDiffer → P ExcPlace → P CreatePlace → P CreateTwice → P AfterStop → P Crossed → P Unmatched → P NoGate → P GateTwice → P GateWays → P GateSplit → P GateOnLoop → P DecompositionMismatch → P SharedPart → P Inside → P LocalEvent → P UnknownEvent → P EventNamedTwice → P Cyclic → P UnknownLabel → P LabelNamedTwice → P Endless → (r : Rule) → IsInSome all_groups r → P r
-each_rule P p0 p1 p2 p3 p4 p5 p6 p7 p8 p9 p10 p11 p12 p13 p14 p15 p16 p17 p18 p19 p20 p21 p22 p23 p24 p25 p26 p27 p28 p29 p30 p31 p32 p33 p34 p35 r (inl (inl is)) = subst P (sym is) p0
-each_rule P p0 p1 p2 p3 p4 p5 p6 p7 p8 p9 p10 p11 p12 p13 p14 p15 p16 p17 p18 p19 p20 p21 p22 p23 p24 p25 p26 p27 p28 p29 p30 p31 p32 p33 p34 p35 r (inl (inr (n))) = absurd n
-each_rule P p0 p1 p2 p3 p4 p5 p6 p7 p8 p9 p10 p11 p12 p13 p14 p15 p16 p17 p18 p19 p20 p21 p22 p23 p24 p25 p26 p27 p28 p29 p30 p31 p32 p33 p34 p35 r (inr (inl (inl is))) = subst P (sym is) p1
-each_rule P p0 p1 p2 p3 p4 p5 p6 p7 p8 p9 p10 p11 p12 p13 p14 p15 p16 p17 p18 p19 p20 p21 p22 p23 p24 p25 p26 p27 p28 p29 p30 p31 p32 p33 p34 p35 r (inr (inl (inr (inl is)))) = subst P (sym is) p2
-each_rule P p0 p1 p2 p3 p4 p5 p6 p7 p8 p9 p10 p11 p12 p13 p14 p15 p16 p17 p18 p19 p20 p21 p22 p23 p24 p25 p26 p27 p28 p29 p30 p31 p32 p33 p34 p35 r (inr (inl (inr (inr (inl is))))) = subst P (sym is) p3
-each_rule P p0 p1 p2 p3 p4 p5 p6 p7 p8 p9 p10 p11 p12 p13 p14 p15 p16 p17 p18 p19 p20 p21 p22 p23 p24 p25 p26 p27 p28 p29 p30 p31 p32 p33 p34 p35 r (inr (inl (inr (inr (inr (inl is)))))) = subst P (sym is) p4
-each_rule P p0 p1 p2 p3 p4 p5 p6 p7 p8 p9 p10 p11 p12 p13 p14 p15 p16 p17 p18 p19 p20 p21 p22 p23 p24 p25 p26 p27 p28 p29 p30 p31 p32 p33 p34 p35 r (inr (inl (inr (inr (inr (inr (n))))))) = absurd n
-each_rule P p0 p1 p2 p3 p4 p5 p6 p7 p8 p9 p10 p11 p12 p13 p14 p15 p16 p17 p18 p19 p20 p21 p22 p23 p24 p25 p26 p27 p28 p29 p30 p31 p32 p33 p34 p35 r (inr (inr (inl (inl is)))) = subst P (sym is) p5
-each_rule P p0 p1 p2 p3 p4 p5 p6 p7 p8 p9 p10 p11 p12 p13 p14 p15 p16 p17 p18 p19 p20 p21 p22 p23 p24 p25 p26 p27 p28 p29 p30 p31 p32 p33 p34 p35 r (inr (inr (inl (inr (inl is))))) = subst P (sym is) p6
-each_rule P p0 p1 p2 p3 p4 p5 p6 p7 p8 p9 p10 p11 p12 p13 p14 p15 p16 p17 p18 p19 p20 p21 p22 p23 p24 p25 p26 p27 p28 p29 p30 p31 p32 p33 p34 p35 r (inr (inr (inl (inr (inr (n)))))) = absurd n
-each_rule P p0 p1 p2 p3 p4 p5 p6 p7 p8 p9 p10 p11 p12 p13 p14 p15 p16 p17 p18 p19 p20 p21 p22 p23 p24 p25 p26 p27 p28 p29 p30 p31 p32 p33 p34 p35 r (inr (inr (inr (inl (inl is))))) = subst P (sym is) p7
-each_rule P p0 p1 p2 p3 p4 p5 p6 p7 p8 p9 p10 p11 p12 p13 p14 p15 p16 p17 p18 p19 p20 p21 p22 p23 p24 p25 p26 p27 p28 p29 p30 p31 p32 p33 p34 p35 r (inr (inr (inr (inl (inr (inl is)))))) = subst P (sym is) p8
-each_rule P p0 p1 p2 p3 p4 p5 p6 p7 p8 p9 p10 p11 p12 p13 p14 p15 p16 p17 p18 p19 p20 p21 p22 p23 p24 p25 p26 p27 p28 p29 p30 p31 p32 p33 p34 p35 r (inr (inr (inr (inl (inr (inr (inl is))))))) = subst P (sym is) p9
-each_rule P p0 p1 p2 p3 p4 p5 p6 p7 p8 p9 p10 p11 p12 p13 p14 p15 p16 p17 p18 p19 p20 p21 p22 p23 p24 p25 p26 p27 p28 p29 p30 p31 p32 p33 p34 p35 r (inr (inr (inr (inl (inr (inr (inr (n)))))))) = absurd n
-each_rule P p0 p1 p2 p3 p4 p5 p6 p7 p8 p9 p10 p11 p12 p13 p14 p15 p16 p17 p18 p19 p20 p21 p22 p23 p24 p25 p26 p27 p28 p29 p30 p31 p32 p33 p34 p35 r (inr (inr (inr (inr (inl (inl is)))))) = subst P (sym is) p10
-each_rule P p0 p1 p2 p3 p4 p5 p6 p7 p8 p9 p10 p11 p12 p13 p14 p15 p16 p17 p18 p19 p20 p21 p22 p23 p24 p25 p26 p27 p28 p29 p30 p31 p32 p33 p34 p35 r (inr (inr (inr (inr (inl (inr (inl is))))))) = subst P (sym is) p11
-each_rule P p0 p1 p2 p3 p4 p5 p6 p7 p8 p9 p10 p11 p12 p13 p14 p15 p16 p17 p18 p19 p20 p21 p22 p23 p24 p25 p26 p27 p28 p29 p30 p31 p32 p33 p34 p35 r (inr (inr (inr (inr (inl (inr (inr (inl is)))))))) = subst P (sym is) p12
-each_rule P p0 p1 p2 p3 p4 p5 p6 p7 p8 p9 p10 p11 p12 p13 p14 p15 p16 p17 p18 p19 p20 p21 p22 p23 p24 p25 p26 p27 p28 p29 p30 p31 p32 p33 p34 p35 r (inr (inr (inr (inr (inl (inr (inr (inr (n))))))))) = absurd n
-each_rule P p0 p1 p2 p3 p4 p5 p6 p7 p8 p9 p10 p11 p12 p13 p14 p15 p16 p17 p18 p19 p20 p21 p22 p23 p24 p25 p26 p27 p28 p29 p30 p31 p32 p33 p34 p35 r (inr (inr (inr (inr (inr (inl (inl is))))))) = subst P (sym is) p13
-each_rule P p0 p1 p2 p3 p4 p5 p6 p7 p8 p9 p10 p11 p12 p13 p14 p15 p16 p17 p18 p19 p20 p21 p22 p23 p24 p25 p26 p27 p28 p29 p30 p31 p32 p33 p34 p35 r (inr (inr (inr (inr (inr (inl (inr (inl is)))))))) = subst P (sym is) p14
-each_rule P p0 p1 p2 p3 p4 p5 p6 p7 p8 p9 p10 p11 p12 p13 p14 p15 p16 p17 p18 p19 p20 p21 p22 p23 p24 p25 p26 p27 p28 p29 p30 p31 p32 p33 p34 p35 r (inr (inr (inr (inr (inr (inl (inr (inr (inl is))))))))) = subst P (sym is) p15
-each_rule P p0 p1 p2 p3 p4 p5 p6 p7 p8 p9 p10 p11 p12 p13 p14 p15 p16 p17 p18 p19 p20 p21 p22 p23 p24 p25 p26 p27 p28 p29 p30 p31 p32 p33 p34 p35 r (inr (inr (inr (inr (inr (inl (inr (inr (inr (inl is)))))))))) = subst P (sym is) p16
-each_rule P p0 p1 p2 p3 p4 p5 p6 p7 p8 p9 p10 p11 p12 p13 p14 p15 p16 p17 p18 p19 p20 p21 p22 p23 p24 p25 p26 p27 p28 p29 p30 p31 p32 p33 p34 p35 r (inr (inr (inr (inr (inr (inl (inr (inr (inr (inr (inl is))))))))))) = subst P (sym is) p17
-each_rule P p0 p1 p2 p3 p4 p5 p6 p7 p8 p9 p10 p11 p12 p13 p14 p15 p16 p17 p18 p19 p20 p21 p22 p23 p24 p25 p26 p27 p28 p29 p30 p31 p32 p33 p34 p35 r (inr (inr (inr (inr (inr (inl (inr (inr (inr (inr (inr (inl is)))))))))))) = subst P (sym is) p18
-each_rule P p0 p1 p2 p3 p4 p5 p6 p7 p8 p9 p10 p11 p12 p13 p14 p15 p16 p17 p18 p19 p20 p21 p22 p23 p24 p25 p26 p27 p28 p29 p30 p31 p32 p33 p34 p35 r (inr (inr (inr (inr (inr (inl (inr (inr (inr (inr (inr (inr (n))))))))))))) = absurd n
-each_rule P p0 p1 p2 p3 p4 p5 p6 p7 p8 p9 p10 p11 p12 p13 p14 p15 p16 p17 p18 p19 p20 p21 p22 p23 p24 p25 p26 p27 p28 p29 p30 p31 p32 p33 p34 p35 r (inr (inr (inr (inr (inr (inr (inl (inl is)))))))) = subst P (sym is) p19
-each_rule P p0 p1 p2 p3 p4 p5 p6 p7 p8 p9 p10 p11 p12 p13 p14 p15 p16 p17 p18 p19 p20 p21 p22 p23 p24 p25 p26 p27 p28 p29 p30 p31 p32 p33 p34 p35 r (inr (inr (inr (inr (inr (inr (inl (inr (n))))))))) = absurd n
-each_rule P p0 p1 p2 p3 p4 p5 p6 p7 p8 p9 p10 p11 p12 p13 p14 p15 p16 p17 p18 p19 p20 p21 p22 p23 p24 p25 p26 p27 p28 p29 p30 p31 p32 p33 p34 p35 r (inr (inr (inr (inr (inr (inr (inr (inl (inl is))))))))) = subst P (sym is) p20
-each_rule P p0 p1 p2 p3 p4 p5 p6 p7 p8 p9 p10 p11 p12 p13 p14 p15 p16 p17 p18 p19 p20 p21 p22 p23 p24 p25 p26 p27 p28 p29 p30 p31 p32 p33 p34 p35 r (inr (inr (inr (inr (inr (inr (inr (inl (inr (n)))))))))) = absurd n
-each_rule P p0 p1 p2 p3 p4 p5 p6 p7 p8 p9 p10 p11 p12 p13 p14 p15 p16 p17 p18 p19 p20 p21 p22 p23 p24 p25 p26 p27 p28 p29 p30 p31 p32 p33 p34 p35 r (inr (inr (inr (inr (inr (inr (inr (inr (inl (inl is)))))))))) = subst P (sym is) p21
-each_rule P p0 p1 p2 p3 p4 p5 p6 p7 p8 p9 p10 p11 p12 p13 p14 p15 p16 p17 p18 p19 p20 p21 p22 p23 p24 p25 p26 p27 p28 p29 p30 p31 p32 p33 p34 p35 r (inr (inr (inr (inr (inr (inr (inr (inr (inl (inr (inl is))))))))))) = subst P (sym is) p22
-each_rule P p0 p1 p2 p3 p4 p5 p6 p7 p8 p9 p10 p11 p12 p13 p14 p15 p16 p17 p18 p19 p20 p21 p22 p23 p24 p25 p26 p27 p28 p29 p30 p31 p32 p33 p34 p35 r (inr (inr (inr (inr (inr (inr (inr (inr (inl (inr (inr (inl is)))))))))))) = subst P (sym is) p23
-each_rule P p0 p1 p2 p3 p4 p5 p6 p7 p8 p9 p10 p11 p12 p13 p14 p15 p16 p17 p18 p19 p20 p21 p22 p23 p24 p25 p26 p27 p28 p29 p30 p31 p32 p33 p34 p35 r (inr (inr (inr (inr (inr (inr (inr (inr (inl (inr (inr (inr (inl is))))))))))))) = subst P (sym is) p24
-each_rule P p0 p1 p2 p3 p4 p5 p6 p7 p8 p9 p10 p11 p12 p13 p14 p15 p16 p17 p18 p19 p20 p21 p22 p23 p24 p25 p26 p27 p28 p29 p30 p31 p32 p33 p34 p35 r (inr (inr (inr (inr (inr (inr (inr (inr (inl (inr (inr (inr (inr (inl is)))))))))))))) = subst P (sym is) p25
-each_rule P p0 p1 p2 p3 p4 p5 p6 p7 p8 p9 p10 p11 p12 p13 p14 p15 p16 p17 p18 p19 p20 p21 p22 p23 p24 p25 p26 p27 p28 p29 p30 p31 p32 p33 p34 p35 r (inr (inr (inr (inr (inr (inr (inr (inr (inl (inr (inr (inr (inr (inr (n))))))))))))))) = absurd n
-each_rule P p0 p1 p2 p3 p4 p5 p6 p7 p8 p9 p10 p11 p12 p13 p14 p15 p16 p17 p18 p19 p20 p21 p22 p23 p24 p25 p26 p27 p28 p29 p30 p31 p32 p33 p34 p35 r (inr (inr (inr (inr (inr (inr (inr (inr (inr (inl (inl is))))))))))) = subst P (sym is) p26
-each_rule P p0 p1 p2 p3 p4 p5 p6 p7 p8 p9 p10 p11 p12 p13 p14 p15 p16 p17 p18 p19 p20 p21 p22 p23 p24 p25 p26 p27 p28 p29 p30 p31 p32 p33 p34 p35 r (inr (inr (inr (inr (inr (inr (inr (inr (inr (inl (inr (inl is)))))))))))) = subst P (sym is) p27
-each_rule P p0 p1 p2 p3 p4 p5 p6 p7 p8 p9 p10 p11 p12 p13 p14 p15 p16 p17 p18 p19 p20 p21 p22 p23 p24 p25 p26 p27 p28 p29 p30 p31 p32 p33 p34 p35 r (inr (inr (inr (inr (inr (inr (inr (inr (inr (inl (inr (inr (inl is))))))))))))) = subst P (sym is) p28
-each_rule P p0 p1 p2 p3 p4 p5 p6 p7 p8 p9 p10 p11 p12 p13 p14 p15 p16 p17 p18 p19 p20 p21 p22 p23 p24 p25 p26 p27 p28 p29 p30 p31 p32 p33 p34 p35 r (inr (inr (inr (inr (inr (inr (inr (inr (inr (inl (inr (inr (inr (inl is)))))))))))))) = subst P (sym is) p29
-each_rule P p0 p1 p2 p3 p4 p5 p6 p7 p8 p9 p10 p11 p12 p13 p14 p15 p16 p17 p18 p19 p20 p21 p22 p23 p24 p25 p26 p27 p28 p29 p30 p31 p32 p33 p34 p35 r (inr (inr (inr (inr (inr (inr (inr (inr (inr (inl (inr (inr (inr (inr (n))))))))))))))) = absurd n
-each_rule P p0 p1 p2 p3 p4 p5 p6 p7 p8 p9 p10 p11 p12 p13 p14 p15 p16 p17 p18 p19 p20 p21 p22 p23 p24 p25 p26 p27 p28 p29 p30 p31 p32 p33 p34 p35 r (inr (inr (inr (inr (inr (inr (inr (inr (inr (inr (inl (inl is)))))))))))) = subst P (sym is) p30
-each_rule P p0 p1 p2 p3 p4 p5 p6 p7 p8 p9 p10 p11 p12 p13 p14 p15 p16 p17 p18 p19 p20 p21 p22 p23 p24 p25 p26 p27 p28 p29 p30 p31 p32 p33 p34 p35 r (inr (inr (inr (inr (inr (inr (inr (inr (inr (inr (inl (inr (inl is))))))))))))) = subst P (sym is) p31
-each_rule P p0 p1 p2 p3 p4 p5 p6 p7 p8 p9 p10 p11 p12 p13 p14 p15 p16 p17 p18 p19 p20 p21 p22 p23 p24 p25 p26 p27 p28 p29 p30 p31 p32 p33 p34 p35 r (inr (inr (inr (inr (inr (inr (inr (inr (inr (inr (inl (inr (inr (n)))))))))))))) = absurd n
-each_rule P p0 p1 p2 p3 p4 p5 p6 p7 p8 p9 p10 p11 p12 p13 p14 p15 p16 p17 p18 p19 p20 p21 p22 p23 p24 p25 p26 p27 p28 p29 p30 p31 p32 p33 p34 p35 r (inr (inr (inr (inr (inr (inr (inr (inr (inr (inr (inr (inl (inl is))))))))))))) = subst P (sym is) p32
-each_rule P p0 p1 p2 p3 p4 p5 p6 p7 p8 p9 p10 p11 p12 p13 p14 p15 p16 p17 p18 p19 p20 p21 p22 p23 p24 p25 p26 p27 p28 p29 p30 p31 p32 p33 p34 p35 r (inr (inr (inr (inr (inr (inr (inr (inr (inr (inr (inr (inl (inr (n)))))))))))))) = absurd n
-each_rule P p0 p1 p2 p3 p4 p5 p6 p7 p8 p9 p10 p11 p12 p13 p14 p15 p16 p17 p18 p19 p20 p21 p22 p23 p24 p25 p26 p27 p28 p29 p30 p31 p32 p33 p34 p35 r (inr (inr (inr (inr (inr (inr (inr (inr (inr (inr (inr (inr (inl (inl is)))))))))))))) = subst P (sym is) p33
-each_rule P p0 p1 p2 p3 p4 p5 p6 p7 p8 p9 p10 p11 p12 p13 p14 p15 p16 p17 p18 p19 p20 p21 p22 p23 p24 p25 p26 p27 p28 p29 p30 p31 p32 p33 p34 p35 r (inr (inr (inr (inr (inr (inr (inr (inr (inr (inr (inr (inr (inl (inr (inl is))))))))))))))) = subst P (sym is) p34
-each_rule P p0 p1 p2 p3 p4 p5 p6 p7 p8 p9 p10 p11 p12 p13 p14 p15 p16 p17 p18 p19 p20 p21 p22 p23 p24 p25 p26 p27 p28 p29 p30 p31 p32 p33 p34 p35 r (inr (inr (inr (inr (inr (inr (inr (inr (inr (inr (inr (inr (inl (inr (inr (n)))))))))))))))) = absurd n
-each_rule P p0 p1 p2 p3 p4 p5 p6 p7 p8 p9 p10 p11 p12 p13 p14 p15 p16 p17 p18 p19 p20 p21 p22 p23 p24 p25 p26 p27 p28 p29 p30 p31 p32 p33 p34 p35 r (inr (inr (inr (inr (inr (inr (inr (inr (inr (inr (inr (inr (inr (inl (inl is))))))))))))))) = subst P (sym is) p35
-each_rule P p0 p1 p2 p3 p4 p5 p6 p7 p8 p9 p10 p11 p12 p13 p14 p15 p16 p17 p18 p19 p20 p21 p22 p23 p24 p25 p26 p27 p28 p29 p30 p31 p32 p33 p34 p35 r (inr (inr (inr (inr (inr (inr (inr (inr (inr (inr (inr (inr (inr (inl (inr (n)))))))))))))))) = absurd n
-each_rule P p0 p1 p2 p3 p4 p5 p6 p7 p8 p9 p10 p11 p12 p13 p14 p15 p16 p17 p18 p19 p20 p21 p22 p23 p24 p25 p26 p27 p28 p29 p30 p31 p32 p33 p34 p35 r (inr (inr (inr (inr (inr (inr (inr (inr (inr (inr (inr (inr (inr (inr (n))))))))))))))) = absurd n
+each_rule : (P : Rule → Type 0) → P Charts → P Instances → P Nodes → P LoopBound → P NamedTwice → P Undeclared → P MissingChart → P Recursive → P Uncovered → P ExpandedNesting → P Size → P Total → P NotShared → P OperandsDiffer → P ExcPlace → P CreatePlace → P CreateTwice → P AfterStop → P Crossed → P Unmatched → P NoGate → P GateTwice → P GateWays → P GateSplit → P GateOnLoop → P DecompositionMismatch → P SharedPart → P Inside → P LocalEvent → P UnknownEvent → P EventNamedTwice → P Cyclic → P UnknownLabel → P LabelNamedTwice → P Endless → (r : Rule) → IsInSome all_groups r → P r
+each_rule P p0 p1 p2 p3 p4 p5 p6 p7 p8 p9 p10 p11 p12 p13 p14 p15 p16 p17 p18 p19 p20 p21 p22 p23 p24 p25 p26 p27 p28 p29 p30 p31 p32 p33 p34 r (inl (inl is)) = subst P (sym is) p0
+each_rule P p0 p1 p2 p3 p4 p5 p6 p7 p8 p9 p10 p11 p12 p13 p14 p15 p16 p17 p18 p19 p20 p21 p22 p23 p24 p25 p26 p27 p28 p29 p30 p31 p32 p33 p34 r (inl (inr (inl is))) = subst P (sym is) p1
+each_rule P p0 p1 p2 p3 p4 p5 p6 p7 p8 p9 p10 p11 p12 p13 p14 p15 p16 p17 p18 p19 p20 p21 p22 p23 p24 p25 p26 p27 p28 p29 p30 p31 p32 p33 p34 r (inl (inr (inr (inl is)))) = subst P (sym is) p2
+each_rule P p0 p1 p2 p3 p4 p5 p6 p7 p8 p9 p10 p11 p12 p13 p14 p15 p16 p17 p18 p19 p20 p21 p22 p23 p24 p25 p26 p27 p28 p29 p30 p31 p32 p33 p34 r (inl (inr (inr (inr (inl is))))) = subst P (sym is) p3
+each_rule P p0 p1 p2 p3 p4 p5 p6 p7 p8 p9 p10 p11 p12 p13 p14 p15 p16 p17 p18 p19 p20 p21 p22 p23 p24 p25 p26 p27 p28 p29 p30 p31 p32 p33 p34 r (inl (inr (inr (inr (inr (n)))))) = absurd n
+each_rule P p0 p1 p2 p3 p4 p5 p6 p7 p8 p9 p10 p11 p12 p13 p14 p15 p16 p17 p18 p19 p20 p21 p22 p23 p24 p25 p26 p27 p28 p29 p30 p31 p32 p33 p34 r (inr (inl (inl is))) = subst P (sym is) p4
+each_rule P p0 p1 p2 p3 p4 p5 p6 p7 p8 p9 p10 p11 p12 p13 p14 p15 p16 p17 p18 p19 p20 p21 p22 p23 p24 p25 p26 p27 p28 p29 p30 p31 p32 p33 p34 r (inr (inl (inr (inl is)))) = subst P (sym is) p5
+each_rule P p0 p1 p2 p3 p4 p5 p6 p7 p8 p9 p10 p11 p12 p13 p14 p15 p16 p17 p18 p19 p20 p21 p22 p23 p24 p25 p26 p27 p28 p29 p30 p31 p32 p33 p34 r (inr (inl (inr (inr (n))))) = absurd n
+each_rule P p0 p1 p2 p3 p4 p5 p6 p7 p8 p9 p10 p11 p12 p13 p14 p15 p16 p17 p18 p19 p20 p21 p22 p23 p24 p25 p26 p27 p28 p29 p30 p31 p32 p33 p34 r (inr (inr (inl (inl is)))) = subst P (sym is) p6
+each_rule P p0 p1 p2 p3 p4 p5 p6 p7 p8 p9 p10 p11 p12 p13 p14 p15 p16 p17 p18 p19 p20 p21 p22 p23 p24 p25 p26 p27 p28 p29 p30 p31 p32 p33 p34 r (inr (inr (inl (inr (inl is))))) = subst P (sym is) p7
+each_rule P p0 p1 p2 p3 p4 p5 p6 p7 p8 p9 p10 p11 p12 p13 p14 p15 p16 p17 p18 p19 p20 p21 p22 p23 p24 p25 p26 p27 p28 p29 p30 p31 p32 p33 p34 r (inr (inr (inl (inr (inr (inl is)))))) = subst P (sym is) p8
+each_rule P p0 p1 p2 p3 p4 p5 p6 p7 p8 p9 p10 p11 p12 p13 p14 p15 p16 p17 p18 p19 p20 p21 p22 p23 p24 p25 p26 p27 p28 p29 p30 p31 p32 p33 p34 r (inr (inr (inl (inr (inr (inr (n))))))) = absurd n
+each_rule P p0 p1 p2 p3 p4 p5 p6 p7 p8 p9 p10 p11 p12 p13 p14 p15 p16 p17 p18 p19 p20 p21 p22 p23 p24 p25 p26 p27 p28 p29 p30 p31 p32 p33 p34 r (inr (inr (inr (inl (inl is))))) = subst P (sym is) p9
+each_rule P p0 p1 p2 p3 p4 p5 p6 p7 p8 p9 p10 p11 p12 p13 p14 p15 p16 p17 p18 p19 p20 p21 p22 p23 p24 p25 p26 p27 p28 p29 p30 p31 p32 p33 p34 r (inr (inr (inr (inl (inr (inl is)))))) = subst P (sym is) p10
+each_rule P p0 p1 p2 p3 p4 p5 p6 p7 p8 p9 p10 p11 p12 p13 p14 p15 p16 p17 p18 p19 p20 p21 p22 p23 p24 p25 p26 p27 p28 p29 p30 p31 p32 p33 p34 r (inr (inr (inr (inl (inr (inr (inl is))))))) = subst P (sym is) p11
+each_rule P p0 p1 p2 p3 p4 p5 p6 p7 p8 p9 p10 p11 p12 p13 p14 p15 p16 p17 p18 p19 p20 p21 p22 p23 p24 p25 p26 p27 p28 p29 p30 p31 p32 p33 p34 r (inr (inr (inr (inl (inr (inr (inr (n)))))))) = absurd n
+each_rule P p0 p1 p2 p3 p4 p5 p6 p7 p8 p9 p10 p11 p12 p13 p14 p15 p16 p17 p18 p19 p20 p21 p22 p23 p24 p25 p26 p27 p28 p29 p30 p31 p32 p33 p34 r (inr (inr (inr (inr (inl (inl is)))))) = subst P (sym is) p12
+each_rule P p0 p1 p2 p3 p4 p5 p6 p7 p8 p9 p10 p11 p12 p13 p14 p15 p16 p17 p18 p19 p20 p21 p22 p23 p24 p25 p26 p27 p28 p29 p30 p31 p32 p33 p34 r (inr (inr (inr (inr (inl (inr (inl is))))))) = subst P (sym is) p13
+each_rule P p0 p1 p2 p3 p4 p5 p6 p7 p8 p9 p10 p11 p12 p13 p14 p15 p16 p17 p18 p19 p20 p21 p22 p23 p24 p25 p26 p27 p28 p29 p30 p31 p32 p33 p34 r (inr (inr (inr (inr (inl (inr (inr (inl is)))))))) = subst P (sym is) p14
+each_rule P p0 p1 p2 p3 p4 p5 p6 p7 p8 p9 p10 p11 p12 p13 p14 p15 p16 p17 p18 p19 p20 p21 p22 p23 p24 p25 p26 p27 p28 p29 p30 p31 p32 p33 p34 r (inr (inr (inr (inr (inl (inr (inr (inr (inl is))))))))) = subst P (sym is) p15
+each_rule P p0 p1 p2 p3 p4 p5 p6 p7 p8 p9 p10 p11 p12 p13 p14 p15 p16 p17 p18 p19 p20 p21 p22 p23 p24 p25 p26 p27 p28 p29 p30 p31 p32 p33 p34 r (inr (inr (inr (inr (inl (inr (inr (inr (inr (inl is)))))))))) = subst P (sym is) p16
+each_rule P p0 p1 p2 p3 p4 p5 p6 p7 p8 p9 p10 p11 p12 p13 p14 p15 p16 p17 p18 p19 p20 p21 p22 p23 p24 p25 p26 p27 p28 p29 p30 p31 p32 p33 p34 r (inr (inr (inr (inr (inl (inr (inr (inr (inr (inr (inl is))))))))))) = subst P (sym is) p17
+each_rule P p0 p1 p2 p3 p4 p5 p6 p7 p8 p9 p10 p11 p12 p13 p14 p15 p16 p17 p18 p19 p20 p21 p22 p23 p24 p25 p26 p27 p28 p29 p30 p31 p32 p33 p34 r (inr (inr (inr (inr (inl (inr (inr (inr (inr (inr (inr (n)))))))))))) = absurd n
+each_rule P p0 p1 p2 p3 p4 p5 p6 p7 p8 p9 p10 p11 p12 p13 p14 p15 p16 p17 p18 p19 p20 p21 p22 p23 p24 p25 p26 p27 p28 p29 p30 p31 p32 p33 p34 r (inr (inr (inr (inr (inr (inl (inl is))))))) = subst P (sym is) p18
+each_rule P p0 p1 p2 p3 p4 p5 p6 p7 p8 p9 p10 p11 p12 p13 p14 p15 p16 p17 p18 p19 p20 p21 p22 p23 p24 p25 p26 p27 p28 p29 p30 p31 p32 p33 p34 r (inr (inr (inr (inr (inr (inl (inr (n)))))))) = absurd n
+each_rule P p0 p1 p2 p3 p4 p5 p6 p7 p8 p9 p10 p11 p12 p13 p14 p15 p16 p17 p18 p19 p20 p21 p22 p23 p24 p25 p26 p27 p28 p29 p30 p31 p32 p33 p34 r (inr (inr (inr (inr (inr (inr (inl (inl is)))))))) = subst P (sym is) p19
+each_rule P p0 p1 p2 p3 p4 p5 p6 p7 p8 p9 p10 p11 p12 p13 p14 p15 p16 p17 p18 p19 p20 p21 p22 p23 p24 p25 p26 p27 p28 p29 p30 p31 p32 p33 p34 r (inr (inr (inr (inr (inr (inr (inl (inr (n))))))))) = absurd n
+each_rule P p0 p1 p2 p3 p4 p5 p6 p7 p8 p9 p10 p11 p12 p13 p14 p15 p16 p17 p18 p19 p20 p21 p22 p23 p24 p25 p26 p27 p28 p29 p30 p31 p32 p33 p34 r (inr (inr (inr (inr (inr (inr (inr (inl (inl is))))))))) = subst P (sym is) p20
+each_rule P p0 p1 p2 p3 p4 p5 p6 p7 p8 p9 p10 p11 p12 p13 p14 p15 p16 p17 p18 p19 p20 p21 p22 p23 p24 p25 p26 p27 p28 p29 p30 p31 p32 p33 p34 r (inr (inr (inr (inr (inr (inr (inr (inl (inr (inl is)))))))))) = subst P (sym is) p21
+each_rule P p0 p1 p2 p3 p4 p5 p6 p7 p8 p9 p10 p11 p12 p13 p14 p15 p16 p17 p18 p19 p20 p21 p22 p23 p24 p25 p26 p27 p28 p29 p30 p31 p32 p33 p34 r (inr (inr (inr (inr (inr (inr (inr (inl (inr (inr (inl is))))))))))) = subst P (sym is) p22
+each_rule P p0 p1 p2 p3 p4 p5 p6 p7 p8 p9 p10 p11 p12 p13 p14 p15 p16 p17 p18 p19 p20 p21 p22 p23 p24 p25 p26 p27 p28 p29 p30 p31 p32 p33 p34 r (inr (inr (inr (inr (inr (inr (inr (inl (inr (inr (inr (inl is)))))))))))) = subst P (sym is) p23
+each_rule P p0 p1 p2 p3 p4 p5 p6 p7 p8 p9 p10 p11 p12 p13 p14 p15 p16 p17 p18 p19 p20 p21 p22 p23 p24 p25 p26 p27 p28 p29 p30 p31 p32 p33 p34 r (inr (inr (inr (inr (inr (inr (inr (inl (inr (inr (inr (inr (inl is))))))))))))) = subst P (sym is) p24
+each_rule P p0 p1 p2 p3 p4 p5 p6 p7 p8 p9 p10 p11 p12 p13 p14 p15 p16 p17 p18 p19 p20 p21 p22 p23 p24 p25 p26 p27 p28 p29 p30 p31 p32 p33 p34 r (inr (inr (inr (inr (inr (inr (inr (inl (inr (inr (inr (inr (inr (n)))))))))))))) = absurd n
+each_rule P p0 p1 p2 p3 p4 p5 p6 p7 p8 p9 p10 p11 p12 p13 p14 p15 p16 p17 p18 p19 p20 p21 p22 p23 p24 p25 p26 p27 p28 p29 p30 p31 p32 p33 p34 r (inr (inr (inr (inr (inr (inr (inr (inr (inl (inl is)))))))))) = subst P (sym is) p25
+each_rule P p0 p1 p2 p3 p4 p5 p6 p7 p8 p9 p10 p11 p12 p13 p14 p15 p16 p17 p18 p19 p20 p21 p22 p23 p24 p25 p26 p27 p28 p29 p30 p31 p32 p33 p34 r (inr (inr (inr (inr (inr (inr (inr (inr (inl (inr (inl is))))))))))) = subst P (sym is) p26
+each_rule P p0 p1 p2 p3 p4 p5 p6 p7 p8 p9 p10 p11 p12 p13 p14 p15 p16 p17 p18 p19 p20 p21 p22 p23 p24 p25 p26 p27 p28 p29 p30 p31 p32 p33 p34 r (inr (inr (inr (inr (inr (inr (inr (inr (inl (inr (inr (inl is)))))))))))) = subst P (sym is) p27
+each_rule P p0 p1 p2 p3 p4 p5 p6 p7 p8 p9 p10 p11 p12 p13 p14 p15 p16 p17 p18 p19 p20 p21 p22 p23 p24 p25 p26 p27 p28 p29 p30 p31 p32 p33 p34 r (inr (inr (inr (inr (inr (inr (inr (inr (inl (inr (inr (inr (inl is))))))))))))) = subst P (sym is) p28
+each_rule P p0 p1 p2 p3 p4 p5 p6 p7 p8 p9 p10 p11 p12 p13 p14 p15 p16 p17 p18 p19 p20 p21 p22 p23 p24 p25 p26 p27 p28 p29 p30 p31 p32 p33 p34 r (inr (inr (inr (inr (inr (inr (inr (inr (inl (inr (inr (inr (inr (n)))))))))))))) = absurd n
+each_rule P p0 p1 p2 p3 p4 p5 p6 p7 p8 p9 p10 p11 p12 p13 p14 p15 p16 p17 p18 p19 p20 p21 p22 p23 p24 p25 p26 p27 p28 p29 p30 p31 p32 p33 p34 r (inr (inr (inr (inr (inr (inr (inr (inr (inr (inl (inl is))))))))))) = subst P (sym is) p29
+each_rule P p0 p1 p2 p3 p4 p5 p6 p7 p8 p9 p10 p11 p12 p13 p14 p15 p16 p17 p18 p19 p20 p21 p22 p23 p24 p25 p26 p27 p28 p29 p30 p31 p32 p33 p34 r (inr (inr (inr (inr (inr (inr (inr (inr (inr (inl (inr (inl is)))))))))))) = subst P (sym is) p30
+each_rule P p0 p1 p2 p3 p4 p5 p6 p7 p8 p9 p10 p11 p12 p13 p14 p15 p16 p17 p18 p19 p20 p21 p22 p23 p24 p25 p26 p27 p28 p29 p30 p31 p32 p33 p34 r (inr (inr (inr (inr (inr (inr (inr (inr (inr (inl (inr (inr (n))))))))))))) = absurd n
+each_rule P p0 p1 p2 p3 p4 p5 p6 p7 p8 p9 p10 p11 p12 p13 p14 p15 p16 p17 p18 p19 p20 p21 p22 p23 p24 p25 p26 p27 p28 p29 p30 p31 p32 p33 p34 r (inr (inr (inr (inr (inr (inr (inr (inr (inr (inr (inl (inl is)))))))))))) = subst P (sym is) p31
+each_rule P p0 p1 p2 p3 p4 p5 p6 p7 p8 p9 p10 p11 p12 p13 p14 p15 p16 p17 p18 p19 p20 p21 p22 p23 p24 p25 p26 p27 p28 p29 p30 p31 p32 p33 p34 r (inr (inr (inr (inr (inr (inr (inr (inr (inr (inr (inl (inr (n))))))))))))) = absurd n
+each_rule P p0 p1 p2 p3 p4 p5 p6 p7 p8 p9 p10 p11 p12 p13 p14 p15 p16 p17 p18 p19 p20 p21 p22 p23 p24 p25 p26 p27 p28 p29 p30 p31 p32 p33 p34 r (inr (inr (inr (inr (inr (inr (inr (inr (inr (inr (inr (inl (inl is))))))))))))) = subst P (sym is) p32
+each_rule P p0 p1 p2 p3 p4 p5 p6 p7 p8 p9 p10 p11 p12 p13 p14 p15 p16 p17 p18 p19 p20 p21 p22 p23 p24 p25 p26 p27 p28 p29 p30 p31 p32 p33 p34 r (inr (inr (inr (inr (inr (inr (inr (inr (inr (inr (inr (inl (inr (inl is)))))))))))))) = subst P (sym is) p33
+each_rule P p0 p1 p2 p3 p4 p5 p6 p7 p8 p9 p10 p11 p12 p13 p14 p15 p16 p17 p18 p19 p20 p21 p22 p23 p24 p25 p26 p27 p28 p29 p30 p31 p32 p33 p34 r (inr (inr (inr (inr (inr (inr (inr (inr (inr (inr (inr (inl (inr (inr (n))))))))))))))) = absurd n
+each_rule P p0 p1 p2 p3 p4 p5 p6 p7 p8 p9 p10 p11 p12 p13 p14 p15 p16 p17 p18 p19 p20 p21 p22 p23 p24 p25 p26 p27 p28 p29 p30 p31 p32 p33 p34 r (inr (inr (inr (inr (inr (inr (inr (inr (inr (inr (inr (inr (inl (inl is)))))))))))))) = subst P (sym is) p34
+each_rule P p0 p1 p2 p3 p4 p5 p6 p7 p8 p9 p10 p11 p12 p13 p14 p15 p16 p17 p18 p19 p20 p21 p22 p23 p24 p25 p26 p27 p28 p29 p30 p31 p32 p33 p34 r (inr (inr (inr (inr (inr (inr (inr (inr (inr (inr (inr (inr (inl (inr (n))))))))))))))) = absurd n
+each_rule P p0 p1 p2 p3 p4 p5 p6 p7 p8 p9 p10 p11 p12 p13 p14 p15 p16 p17 p18 p19 p20 p21 p22 p23 p24 p25 p26 p27 p28 p29 p30 p31 p32 p33 p34 r (inr (inr (inr (inr (inr (inr (inr (inr (inr (inr (inr (inr (inr (n)))))))))))))) = absurd n
 
 decoded : ℕ → Rule
-decoded n = if nat_eq n 41 then NotBuilt else (if nat_eq n 9 then Charts else (if nat_eq n 10 then Instances else (if nat_eq n 11 then Nodes else (if nat_eq n 12 then LoopBound else (if nat_eq n 13 then NamedTwice else (if nat_eq n 14 then Undeclared else (if nat_eq n 15 then MissingChart else (if nat_eq n 16 then Recursive else (if nat_eq n 17 then Uncovered else (if nat_eq n 18 then ExpandedNesting else (if nat_eq n 19 then Size else (if nat_eq n 20 then Total else (if nat_eq n 21 then NotShared else (if nat_eq n 22 then OperandsDiffer else (if nat_eq n 23 then ExcPlace else (if nat_eq n 42 then CreatePlace else (if nat_eq n 43 then CreateTwice else (if nat_eq n 44 then AfterStop else (if nat_eq n 24 then Crossed else (if nat_eq n 25 then Unmatched else (if nat_eq n 26 then NoGate else (if nat_eq n 27 then GateTwice else (if nat_eq n 28 then GateWays else (if nat_eq n 29 then GateSplit else (if nat_eq n 30 then GateOnLoop else (if nat_eq n 31 then DecompositionMismatch else (if nat_eq n 32 then SharedPart else (if nat_eq n 33 then Inside else (if nat_eq n 34 then LocalEvent else (if nat_eq n 35 then UnknownEvent else (if nat_eq n 36 then EventNamedTwice else (if nat_eq n 37 then Cyclic else (if nat_eq n 38 then UnknownLabel else (if nat_eq n 39 then LabelNamedTwice else Endless))))))))))))))))))))))))))))))))))
+decoded n = if nat_eq n 9 then Charts else (if nat_eq n 10 then Instances else (if nat_eq n 11 then Nodes else (if nat_eq n 12 then LoopBound else (if nat_eq n 13 then NamedTwice else (if nat_eq n 14 then Undeclared else (if nat_eq n 15 then MissingChart else (if nat_eq n 16 then Recursive else (if nat_eq n 17 then Uncovered else (if nat_eq n 18 then ExpandedNesting else (if nat_eq n 19 then Size else (if nat_eq n 20 then Total else (if nat_eq n 21 then NotShared else (if nat_eq n 22 then OperandsDiffer else (if nat_eq n 23 then ExcPlace else (if nat_eq n 41 then CreatePlace else (if nat_eq n 42 then CreateTwice else (if nat_eq n 43 then AfterStop else (if nat_eq n 24 then Crossed else (if nat_eq n 25 then Unmatched else (if nat_eq n 26 then NoGate else (if nat_eq n 27 then GateTwice else (if nat_eq n 28 then GateWays else (if nat_eq n 29 then GateSplit else (if nat_eq n 30 then GateOnLoop else (if nat_eq n 31 then DecompositionMismatch else (if nat_eq n 32 then SharedPart else (if nat_eq n 33 then Inside else (if nat_eq n 34 then LocalEvent else (if nat_eq n 35 then UnknownEvent else (if nat_eq n 36 then EventNamedTwice else (if nat_eq n 37 then Cyclic else (if nat_eq n 38 then UnknownLabel else (if nat_eq n 39 then LabelNamedTwice else Endless)))))))))))))))))))))))))))))))))
 
 decodes : (r : Rule) → IsInSome all_groups r → decoded (number_of r) ≡ r
 unfolding decoded
-decodes = each_rule (λ r. decoded (number_of r) ≡ r) refl refl refl refl refl refl refl refl refl refl refl refl refl refl refl refl refl refl refl refl refl refl refl refl refl refl refl refl refl refl refl refl refl refl refl refl
+decodes = each_rule (λ r. decoded (number_of r) ≡ r) refl refl refl refl refl refl refl refl refl refl refl refl refl refl refl refl refl refl refl refl refl refl refl refl refl refl refl refl refl refl refl refl refl refl refl
 
 -- a rule that charts break is in one of the groups
 in_some : (charts : List Chart) (r : Rule) (p : Place) → BreaksOf charts r p → IsInSome all_groups r
@@ -99,42 +97,41 @@ in_some charts LongName p b = absurd b
 in_some charts Syntax p b = absurd b
 in_some charts (Unsupported form) p b = absurd b
 in_some charts TooDeep p b = absurd b
-in_some charts Charts p b = inr (inl (inl refl))
-in_some charts Instances p b = inr (inl (inr (inl refl)))
-in_some charts Nodes p b = inr (inl (inr (inr (inl refl))))
-in_some charts LoopBound p b = inr (inl (inr (inr (inr (inl refl)))))
-in_some charts NamedTwice p b = inr (inr (inl (inl refl)))
-in_some charts Undeclared p b = inr (inr (inl (inr (inl refl))))
-in_some charts MissingChart p b = inr (inr (inr (inl (inl refl))))
-in_some charts Recursive p b = inr (inr (inr (inl (inr (inl refl)))))
-in_some charts Uncovered p b = inr (inr (inr (inl (inr (inr (inl refl))))))
-in_some charts ExpandedNesting p b = inr (inr (inr (inr (inl (inl refl)))))
-in_some charts Size p b = inr (inr (inr (inr (inl (inr (inl refl))))))
-in_some charts Total p b = inr (inr (inr (inr (inl (inr (inr (inl refl)))))))
-in_some charts NotShared p b = inr (inr (inr (inr (inr (inl (inl refl))))))
-in_some charts OperandsDiffer p b = inr (inr (inr (inr (inr (inl (inr (inl refl)))))))
-in_some charts ExcPlace p b = inr (inr (inr (inr (inr (inl (inr (inr (inl refl))))))))
-in_some charts Crossed p b = inr (inr (inr (inr (inr (inr (inl (inl refl)))))))
-in_some charts Unmatched p b = inr (inr (inr (inr (inr (inr (inr (inl (inl refl))))))))
-in_some charts NoGate p b = inr (inr (inr (inr (inr (inr (inr (inr (inl (inl refl)))))))))
-in_some charts GateTwice p b = inr (inr (inr (inr (inr (inr (inr (inr (inl (inr (inl refl))))))))))
-in_some charts GateWays p b = inr (inr (inr (inr (inr (inr (inr (inr (inl (inr (inr (inl refl)))))))))))
-in_some charts GateSplit p b = inr (inr (inr (inr (inr (inr (inr (inr (inl (inr (inr (inr (inl refl))))))))))))
-in_some charts GateOnLoop p b = inr (inr (inr (inr (inr (inr (inr (inr (inl (inr (inr (inr (inr (inl refl)))))))))))))
-in_some charts DecompositionMismatch p b = inr (inr (inr (inr (inr (inr (inr (inr (inr (inl (inl refl))))))))))
-in_some charts SharedPart p b = inr (inr (inr (inr (inr (inr (inr (inr (inr (inl (inr (inl refl)))))))))))
-in_some charts Inside p b = inr (inr (inr (inr (inr (inr (inr (inr (inr (inl (inr (inr (inl refl))))))))))))
-in_some charts LocalEvent p b = inr (inr (inr (inr (inr (inr (inr (inr (inr (inl (inr (inr (inr (inl refl)))))))))))))
-in_some charts UnknownEvent p b = inr (inr (inr (inr (inr (inr (inr (inr (inr (inr (inl (inl refl)))))))))))
-in_some charts EventNamedTwice p b = inr (inr (inr (inr (inr (inr (inr (inr (inr (inr (inl (inr (inl refl))))))))))))
-in_some charts Cyclic p b = inr (inr (inr (inr (inr (inr (inr (inr (inr (inr (inr (inl (inl refl))))))))))))
-in_some charts UnknownLabel p b = inr (inr (inr (inr (inr (inr (inr (inr (inr (inr (inr (inr (inl (inl refl)))))))))))))
-in_some charts LabelNamedTwice p b = inr (inr (inr (inr (inr (inr (inr (inr (inr (inr (inr (inr (inl (inr (inl refl))))))))))))))
-in_some charts Endless p b = inr (inr (inr (inr (inr (inr (inr (inr (inr (inr (inr (inr (inr (inl (inl refl))))))))))))))
-in_some charts NotBuilt p b = inl (inl refl)
-in_some charts CreatePlace p b = inr (inr (inr (inr (inr (inl (inr (inr (inr (inl refl)))))))))
-in_some charts CreateTwice p b = inr (inr (inr (inr (inr (inl (inr (inr (inr (inr (inl refl))))))))))
-in_some charts AfterStop p b = inr (inr (inr (inr (inr (inl (inr (inr (inr (inr (inr (inl refl)))))))))))
+in_some charts Charts p b = inl (inl refl)
+in_some charts Instances p b = inl (inr (inl refl))
+in_some charts Nodes p b = inl (inr (inr (inl refl)))
+in_some charts LoopBound p b = inl (inr (inr (inr (inl refl))))
+in_some charts NamedTwice p b = inr (inl (inl refl))
+in_some charts Undeclared p b = inr (inl (inr (inl refl)))
+in_some charts MissingChart p b = inr (inr (inl (inl refl)))
+in_some charts Recursive p b = inr (inr (inl (inr (inl refl))))
+in_some charts Uncovered p b = inr (inr (inl (inr (inr (inl refl)))))
+in_some charts ExpandedNesting p b = inr (inr (inr (inl (inl refl))))
+in_some charts Size p b = inr (inr (inr (inl (inr (inl refl)))))
+in_some charts Total p b = inr (inr (inr (inl (inr (inr (inl refl))))))
+in_some charts NotShared p b = inr (inr (inr (inr (inl (inl refl)))))
+in_some charts OperandsDiffer p b = inr (inr (inr (inr (inl (inr (inl refl))))))
+in_some charts ExcPlace p b = inr (inr (inr (inr (inl (inr (inr (inl refl)))))))
+in_some charts Crossed p b = inr (inr (inr (inr (inr (inl (inl refl))))))
+in_some charts Unmatched p b = inr (inr (inr (inr (inr (inr (inl (inl refl)))))))
+in_some charts NoGate p b = inr (inr (inr (inr (inr (inr (inr (inl (inl refl))))))))
+in_some charts GateTwice p b = inr (inr (inr (inr (inr (inr (inr (inl (inr (inl refl)))))))))
+in_some charts GateWays p b = inr (inr (inr (inr (inr (inr (inr (inl (inr (inr (inl refl))))))))))
+in_some charts GateSplit p b = inr (inr (inr (inr (inr (inr (inr (inl (inr (inr (inr (inl refl)))))))))))
+in_some charts GateOnLoop p b = inr (inr (inr (inr (inr (inr (inr (inl (inr (inr (inr (inr (inl refl))))))))))))
+in_some charts DecompositionMismatch p b = inr (inr (inr (inr (inr (inr (inr (inr (inl (inl refl)))))))))
+in_some charts SharedPart p b = inr (inr (inr (inr (inr (inr (inr (inr (inl (inr (inl refl))))))))))
+in_some charts Inside p b = inr (inr (inr (inr (inr (inr (inr (inr (inl (inr (inr (inl refl)))))))))))
+in_some charts LocalEvent p b = inr (inr (inr (inr (inr (inr (inr (inr (inl (inr (inr (inr (inl refl))))))))))))
+in_some charts UnknownEvent p b = inr (inr (inr (inr (inr (inr (inr (inr (inr (inl (inl refl))))))))))
+in_some charts EventNamedTwice p b = inr (inr (inr (inr (inr (inr (inr (inr (inr (inl (inr (inl refl)))))))))))
+in_some charts Cyclic p b = inr (inr (inr (inr (inr (inr (inr (inr (inr (inr (inl (inl refl)))))))))))
+in_some charts UnknownLabel p b = inr (inr (inr (inr (inr (inr (inr (inr (inr (inr (inr (inl (inl refl))))))))))))
+in_some charts LabelNamedTwice p b = inr (inr (inr (inr (inr (inr (inr (inr (inr (inr (inr (inl (inr (inl refl)))))))))))))
+in_some charts Endless p b = inr (inr (inr (inr (inr (inr (inr (inr (inr (inr (inr (inr (inl (inl refl)))))))))))))
+in_some charts CreatePlace p b = inr (inr (inr (inr (inl (inr (inr (inr (inl refl))))))))
+in_some charts CreateTwice p b = inr (inr (inr (inr (inl (inr (inr (inr (inr (inl refl)))))))))
+in_some charts AfterStop p b = inr (inr (inr (inr (inl (inr (inr (inr (inr (inr (inl refl))))))))))
 
 one_number : (charts : List Chart) (r s : Rule) (p q : Place) → BreaksOf charts r p → BreaksOf charts s q → number_of r ≡ number_of s → r ≡ s
 one_number charts r s p q a b e = sym (decodes r (in_some charts r p a)) ∙ ap decoded e ∙ decodes s (in_some charts s q b)
@@ -167,47 +164,44 @@ in_limits : (r : Rule) → IsAmong limits r → group_of r ≡ group_of Charts
 in_limits r (inl e) = ap group_of e
 in_limits r (inr m) = in_three Instances Nodes LoopBound r refl refl m
 
-low_endings : (s : Rule) → IsInSome (endings ∷ []) s → 16 ≤ group_of s
+low_endings : (s : Rule) → IsInSome (endings ∷ []) s → 15 ≤ group_of s
 low_endings s h = elim h [ inl m ↦ omega (arith, in_one Endless s m) | inr n ↦ absurd n ]
 
-low_labels : (s : Rule) → IsInSome (labels ∷ endings ∷ []) s → 15 ≤ group_of s
+low_labels : (s : Rule) → IsInSome (labels ∷ endings ∷ []) s → 14 ≤ group_of s
 low_labels s h = elim h [ inl m ↦ omega (arith, in_two UnknownLabel LabelNamedTwice s refl m) | inr n ↦ omega (arith, low_endings s n) ]
 
-low_cycles : (s : Rule) → IsInSome (cycles ∷ labels ∷ endings ∷ []) s → 14 ≤ group_of s
+low_cycles : (s : Rule) → IsInSome (cycles ∷ labels ∷ endings ∷ []) s → 13 ≤ group_of s
 low_cycles s h = elim h [ inl m ↦ omega (arith, in_one Cyclic s m) | inr n ↦ omega (arith, low_labels s n) ]
 
-low_event_names : (s : Rule) → IsInSome (event_names ∷ cycles ∷ labels ∷ endings ∷ []) s → 13 ≤ group_of s
+low_event_names : (s : Rule) → IsInSome (event_names ∷ cycles ∷ labels ∷ endings ∷ []) s → 12 ≤ group_of s
 low_event_names s h = elim h [ inl m ↦ omega (arith, in_two UnknownEvent EventNamedTwice s refl m) | inr n ↦ omega (arith, low_cycles s n) ]
 
-low_decompositions : (s : Rule) → IsInSome (decompositions ∷ event_names ∷ cycles ∷ labels ∷ endings ∷ []) s → 12 ≤ group_of s
+low_decompositions : (s : Rule) → IsInSome (decompositions ∷ event_names ∷ cycles ∷ labels ∷ endings ∷ []) s → 11 ≤ group_of s
 low_decompositions s h = elim h [ inl m ↦ omega (arith, in_decompositions s m) | inr n ↦ omega (arith, low_event_names s n) ]
 
-low_gates : (s : Rule) → IsInSome (gates ∷ decompositions ∷ event_names ∷ cycles ∷ labels ∷ endings ∷ []) s → 11 ≤ group_of s
+low_gates : (s : Rule) → IsInSome (gates ∷ decompositions ∷ event_names ∷ cycles ∷ labels ∷ endings ∷ []) s → 10 ≤ group_of s
 low_gates s h = elim h [ inl m ↦ omega (arith, in_gates s m) | inr n ↦ omega (arith, low_decompositions s n) ]
 
-low_messages : (s : Rule) → IsInSome (messages ∷ gates ∷ decompositions ∷ event_names ∷ cycles ∷ labels ∷ endings ∷ []) s → 10 ≤ group_of s
+low_messages : (s : Rule) → IsInSome (messages ∷ gates ∷ decompositions ∷ event_names ∷ cycles ∷ labels ∷ endings ∷ []) s → 9 ≤ group_of s
 low_messages s h = elim h [ inl m ↦ omega (arith, in_one Unmatched s m) | inr n ↦ omega (arith, low_gates s n) ]
 
-low_columns : (s : Rule) → IsInSome (columns ∷ messages ∷ gates ∷ decompositions ∷ event_names ∷ cycles ∷ labels ∷ endings ∷ []) s → 9 ≤ group_of s
+low_columns : (s : Rule) → IsInSome (columns ∷ messages ∷ gates ∷ decompositions ∷ event_names ∷ cycles ∷ labels ∷ endings ∷ []) s → 8 ≤ group_of s
 low_columns s h = elim h [ inl m ↦ omega (arith, in_one Crossed s m) | inr n ↦ omega (arith, low_messages s n) ]
 
-low_parts : (s : Rule) → IsInSome (parts ∷ columns ∷ messages ∷ gates ∷ decompositions ∷ event_names ∷ cycles ∷ labels ∷ endings ∷ []) s → 8 ≤ group_of s
+low_parts : (s : Rule) → IsInSome (parts ∷ columns ∷ messages ∷ gates ∷ decompositions ∷ event_names ∷ cycles ∷ labels ∷ endings ∷ []) s → 7 ≤ group_of s
 low_parts s h = elim h [ inl m ↦ omega (arith, in_parts s m) | inr n ↦ omega (arith, low_columns s n) ]
 
-low_sizes : (s : Rule) → IsInSome (sizes ∷ parts ∷ columns ∷ messages ∷ gates ∷ decompositions ∷ event_names ∷ cycles ∷ labels ∷ endings ∷ []) s → 7 ≤ group_of s
+low_sizes : (s : Rule) → IsInSome (sizes ∷ parts ∷ columns ∷ messages ∷ gates ∷ decompositions ∷ event_names ∷ cycles ∷ labels ∷ endings ∷ []) s → 6 ≤ group_of s
 low_sizes s h = elim h [ inl m ↦ omega (arith, in_three ExpandedNesting Size Total s refl refl m) | inr n ↦ omega (arith, low_parts s n) ]
 
-low_references : (s : Rule) → IsInSome (references ∷ sizes ∷ parts ∷ columns ∷ messages ∷ gates ∷ decompositions ∷ event_names ∷ cycles ∷ labels ∷ endings ∷ []) s → 6 ≤ group_of s
+low_references : (s : Rule) → IsInSome (references ∷ sizes ∷ parts ∷ columns ∷ messages ∷ gates ∷ decompositions ∷ event_names ∷ cycles ∷ labels ∷ endings ∷ []) s → 5 ≤ group_of s
 low_references s h = elim h [ inl m ↦ omega (arith, in_three MissingChart Recursive Uncovered s refl refl m) | inr n ↦ omega (arith, low_sizes s n) ]
 
-low_names : (s : Rule) → IsInSome (names ∷ references ∷ sizes ∷ parts ∷ columns ∷ messages ∷ gates ∷ decompositions ∷ event_names ∷ cycles ∷ labels ∷ endings ∷ []) s → 5 ≤ group_of s
+low_names : (s : Rule) → IsInSome (names ∷ references ∷ sizes ∷ parts ∷ columns ∷ messages ∷ gates ∷ decompositions ∷ event_names ∷ cycles ∷ labels ∷ endings ∷ []) s → 4 ≤ group_of s
 low_names s h = elim h [ inl m ↦ omega (arith, in_two NamedTwice Undeclared s refl m) | inr n ↦ omega (arith, low_references s n) ]
 
-low_limits : (s : Rule) → IsInSome (limits ∷ names ∷ references ∷ sizes ∷ parts ∷ columns ∷ messages ∷ gates ∷ decompositions ∷ event_names ∷ cycles ∷ labels ∷ endings ∷ []) s → 4 ≤ group_of s
-low_limits s h = elim h [ inl m ↦ omega (arith, in_limits s m) | inr n ↦ omega (arith, low_names s n) ]
-
 are_groups : AreGroups group_of all_groups
-are_groups = (λ r s m n. in_one NotBuilt r m ∙ sym (in_one NotBuilt s n), λ r s m n. omega (arith, in_one NotBuilt r m, low_limits s n), (λ r s m n. in_limits r m ∙ sym (in_limits s n), λ r s m n. omega (arith, in_limits r m, low_names s n), (λ r s m n. in_two NamedTwice Undeclared r refl m ∙ sym (in_two NamedTwice Undeclared s refl n), λ r s m n. omega (arith, in_two NamedTwice Undeclared r refl m, low_references s n), (λ r s m n. in_three MissingChart Recursive Uncovered r refl refl m ∙ sym (in_three MissingChart Recursive Uncovered s refl refl n), λ r s m n. omega (arith, in_three MissingChart Recursive Uncovered r refl refl m, low_sizes s n), (λ r s m n. in_three ExpandedNesting Size Total r refl refl m ∙ sym (in_three ExpandedNesting Size Total s refl refl n), λ r s m n. omega (arith, in_three ExpandedNesting Size Total r refl refl m, low_parts s n), (λ r s m n. in_parts r m ∙ sym (in_parts s n), λ r s m n. omega (arith, in_parts r m, low_columns s n), (λ r s m n. in_one Crossed r m ∙ sym (in_one Crossed s n), λ r s m n. omega (arith, in_one Crossed r m, low_messages s n), (λ r s m n. in_one Unmatched r m ∙ sym (in_one Unmatched s n), λ r s m n. omega (arith, in_one Unmatched r m, low_gates s n), (λ r s m n. in_gates r m ∙ sym (in_gates s n), λ r s m n. omega (arith, in_gates r m, low_decompositions s n), (λ r s m n. in_decompositions r m ∙ sym (in_decompositions s n), λ r s m n. omega (arith, in_decompositions r m, low_event_names s n), (λ r s m n. in_two UnknownEvent EventNamedTwice r refl m ∙ sym (in_two UnknownEvent EventNamedTwice s refl n), λ r s m n. omega (arith, in_two UnknownEvent EventNamedTwice r refl m, low_cycles s n), (λ r s m n. in_one Cyclic r m ∙ sym (in_one Cyclic s n), λ r s m n. omega (arith, in_one Cyclic r m, low_labels s n), (λ r s m n. in_two UnknownLabel LabelNamedTwice r refl m ∙ sym (in_two UnknownLabel LabelNamedTwice s refl n), λ r s m n. omega (arith, in_two UnknownLabel LabelNamedTwice r refl m, low_endings s n), (λ r s m n. in_one Endless r m ∙ sym (in_one Endless s n), λ r s m n. absurd n, tt))))))))))))))
+are_groups = (λ r s m n. in_limits r m ∙ sym (in_limits s n), λ r s m n. omega (arith, in_limits r m, low_names s n), (λ r s m n. in_two NamedTwice Undeclared r refl m ∙ sym (in_two NamedTwice Undeclared s refl n), λ r s m n. omega (arith, in_two NamedTwice Undeclared r refl m, low_references s n), (λ r s m n. in_three MissingChart Recursive Uncovered r refl refl m ∙ sym (in_three MissingChart Recursive Uncovered s refl refl n), λ r s m n. omega (arith, in_three MissingChart Recursive Uncovered r refl refl m, low_sizes s n), (λ r s m n. in_three ExpandedNesting Size Total r refl refl m ∙ sym (in_three ExpandedNesting Size Total s refl refl n), λ r s m n. omega (arith, in_three ExpandedNesting Size Total r refl refl m, low_parts s n), (λ r s m n. in_parts r m ∙ sym (in_parts s n), λ r s m n. omega (arith, in_parts r m, low_columns s n), (λ r s m n. in_one Crossed r m ∙ sym (in_one Crossed s n), λ r s m n. omega (arith, in_one Crossed r m, low_messages s n), (λ r s m n. in_one Unmatched r m ∙ sym (in_one Unmatched s n), λ r s m n. omega (arith, in_one Unmatched r m, low_gates s n), (λ r s m n. in_gates r m ∙ sym (in_gates s n), λ r s m n. omega (arith, in_gates r m, low_decompositions s n), (λ r s m n. in_decompositions r m ∙ sym (in_decompositions s n), λ r s m n. omega (arith, in_decompositions r m, low_event_names s n), (λ r s m n. in_two UnknownEvent EventNamedTwice r refl m ∙ sym (in_two UnknownEvent EventNamedTwice s refl n), λ r s m n. omega (arith, in_two UnknownEvent EventNamedTwice r refl m, low_cycles s n), (λ r s m n. in_one Cyclic r m ∙ sym (in_one Cyclic s n), λ r s m n. omega (arith, in_one Cyclic r m, low_labels s n), (λ r s m n. in_two UnknownLabel LabelNamedTwice r refl m ∙ sym (in_two UnknownLabel LabelNamedTwice s refl n), λ r s m n. omega (arith, in_two UnknownLabel LabelNamedTwice r refl m, low_endings s n), (λ r s m n. in_one Endless r m ∙ sym (in_one Endless s n), λ r s m n. absurd n, tt)))))))))))))
 
 -- ---- what charts come to
 
@@ -238,17 +232,17 @@ kept_right charts [] others kept = kept
 kept_right charts (rules ∷ groups) others kept = kept_right charts groups others kept.1
 
 -- where all groups but the last are kept, the first fault of the text is that of its last group
-pub first_of_text : (charts : List Chart) (o : Option (Broken Rule)) → IsBest number_of (BreaksOf charts) forms None → IsBest number_of (BreaksOf charts) limits None → IsBest number_of (BreaksOf charts) names None
+pub first_of_text : (charts : List Chart) (o : Option (Broken Rule)) → IsBest number_of (BreaksOf charts) limits None → IsBest number_of (BreaksOf charts) names None
     → IsFirstOf charts link_groups None → IsBest number_of (BreaksOf charts) parts o → IsFirstOf charts text_groups o
-first_of_text charts None a b c d h = (a, (b, (c, (d.0, (d.1.0, (h, tt))))))
-first_of_text charts (Some fault) a b c d h = inr (a, inr (b, inr (c, inr (d.0, inr (d.1.0, inl h)))))
+first_of_text charts None a b c h = (a, (b, (c.0, (c.1.0, (h, tt)))))
+first_of_text charts (Some fault) a b c h = inr (a, inr (b, inr (c.0, inr (c.1.0, inl h))))
 
 -- the first fault of links, where the groups before are kept
-pub first_link : (charts : List Chart) (fault : Broken Rule) → IsBest number_of (BreaksOf charts) forms None → IsBest number_of (BreaksOf charts) limits None → IsBest number_of (BreaksOf charts) names None
+pub first_link : (charts : List Chart) (fault : Broken Rule) → IsBest number_of (BreaksOf charts) limits None → IsBest number_of (BreaksOf charts) names None
     → IsFirstOf charts link_groups (Some fault) → IsFirstOf charts text_groups (Some fault)
-first_link charts fault a b c (inl h) = inr (a, inr (b, inr (c, inl h)))
-first_link charts fault a b c (inr (k, inl h)) = inr (a, inr (b, inr (c, inr (k, inl h))))
-first_link charts fault a b c (inr (k, inr n)) = absurd n.1
+first_link charts fault a b (inl h) = inr (a, inr (b, inl h))
+first_link charts fault a b (inr (k, inl h)) = inr (a, inr (b, inr (k, inl h)))
+first_link charts fault a b (inr (k, inr n)) = absurd n.1
 
 -- of links: where references keep the rules, the first fault is one of sizes
 pub first_of_links : (charts : List Chart) (o : Option (Broken Rule)) → IsBest number_of (BreaksOf charts) references None → IsBest number_of (BreaksOf charts) sizes o → IsFirstOf charts link_groups o
@@ -328,6 +322,6 @@ entries_long (c ∷ charts) (e ∷ table) (entry_and is others) = omega (arith, 
 
 pub few : (charts : List Chart) (entries : List code.ChartEntry) → AllKept (BreaksOf charts) text_groups → AreEntriesOf instances charts (table_view entries) → length entries ≤ CHARTS
 few charts entries texts are = elim (cases_lt CHARTS (length charts)) [
-  | inl lt ↦ let s = some_at charts CHARTS lt in absurd (texts.1.0 Charts s.0.place (inl refl) (ap (option_map (λ (c : Chart). c.place)) s.1))
+  | inl lt ↦ let s = some_at charts CHARTS lt in absurd (texts.0 Charts s.0.place (inl refl) (ap (option_map (λ (c : Chart). c.place)) s.1))
   | inr ge ↦ omega (arith, entries_long charts (table_view entries) are, length-map entries entry_view, ge)
 ]

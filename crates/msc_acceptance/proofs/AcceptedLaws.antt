@@ -26,7 +26,7 @@ use Rattle.gate_ends.specs.JoinCounts.{reference_count}
 use Rattle.gate_rules.specs.GateLaws.{LevelsHaveGates}
 use Rattle.general_ordering.specs.EventNames.{Twice}
 use Rattle.graph_rules.specs.GraphRules.{AreLabelled, HasEndlessLine, HaveFewLines, InGraphs, content_graphs, ending_graphs, graphs_to_end}
-use Rattle.msc_acceptance.proofs.ChartLaws.{IsBasic, IsDrawn, basic_built, kind_of, level_of, pieces_of}
+use Rattle.msc_acceptance.proofs.ChartLaws.{IsBasic, IsDrawn, kind_of, level_of, pieces_of}
 use Rattle.join_sizes.specs.JoinSizes.{AreJoinSizes}
 use Rattle.join_sizes.specs.JoinSizeLaws.{JoinSizesAreKnown}
 use Rattle.list_facts.proofs.Members.{among_either, among_left, among_right, at_among}
@@ -37,7 +37,7 @@ use Rattle.msc_acceptance.proofs.LimitLaws.{not_passed}
 use Rattle.msc_acceptance.proofs.WalkLaws.{in_one, one_formed}
 use Rattle.msc_acceptance.specs.Acceptance.{BreaksOf}
 use Rattle.msc_acceptance.specs.AcceptedCharts.{EachChart, IsAcceptedBody, IsAcceptedChart, IsAcceptedContent, IsAcceptedGraph, IsAcceptedTable, IsThereTo, content_names, is_named, named_charts, table_instances, used_refinements, woven_ending}
-use Rattle.msc_acceptance.specs.ChartFaults.{HasUnbuilt, IsBodyOf, IsMisnamedAt}
+use Rattle.msc_acceptance.specs.ChartFaults.{IsBodyOf, IsMisnamedAt}
 use Rattle.msc_acceptance.specs.Deciding.{AllKept, HaveExtents, graph_groups, names, table_groups, text_groups}
 use Rattle.msc_acceptance.specs.GraphFaults.{is_referred, linked_names}
 use Rattle.chart_lists.specs.Listing.{content_instances, cover_of}
@@ -57,7 +57,7 @@ use Rattle.msc_meaning.specs.Pieces.{Piece}
 use Rattle.msc_meaning.specs.Tables.{ChartEntry, Table, Woven, Basic, HighLevel, Refinement, body_at, body_in, chart_at, refinements}
 use Rattle.msc_meaning.specs.WovenTables.{AreEntriesOf, entry_and, IsEntryOf, IsWovenContent}
 use Rattle.msc_rules.specs.FirstFaults.{Keeps}
-use Rattle.msc_rules.specs.declared.rule.Rule.TheVariants.{CreateTwice, Endless, EventNamedTwice, ExpandedNesting, Instances, MissingChart, NamedTwice, NotBuilt, Size, Undeclared}
+use Rattle.msc_rules.specs.declared.rule.Rule.TheVariants.{CreateTwice, Endless, EventNamedTwice, ExpandedNesting, Instances, MissingChart, NamedTwice, Size, Undeclared}
 use Rattle.msc_tree.specs.Charts.{Chart}
 use Rattle.msc_tree.specs.Charts as chart
 use Rattle.msc_tree.specs.Graphs.{Graph}
@@ -86,7 +86,6 @@ covers cover ps b (woven order items paired) = refl
 -- what is known of a chart that keeps the rules on charts one by one
 record KeepsOwn (c : Chart) : Type 0 where
   formed : IsWellFormed c
-  built : (p : Place) → HasUnbuilt c p → ⊥
   named : (p : Place) → ChartNamesOther c p → ⊥
   created : (p : Place) → ChartCreatesTwice c p → ⊥
   named_once : (p : Place) → IsMisnamedAt Twice c p → ⊥
@@ -131,7 +130,7 @@ module _ (built : BuiltChartsAreKnown) (known : WovenChartsAreKnown) where
       of_body b =
           let cover : cover_of b.body ≡ instances c = covers (instances c) (pieces_of c b.basic) b.body b.on_level in
           let accepted : IsAcceptedBody b.body = record {
-            built = subst (λ (names : List (List ℕ)). IsBuiltBody names b.body) (sym cover) (built.built c b.basic.held b.body b.basic.is keeps.formed (basic_built c b.basic keeps.built) keeps.named keeps.created b.on_level);
+            built = subst (λ (names : List (List ℕ)). IsBuiltBody names b.body) (sym cover) (built.built c b.basic.held b.body b.basic.is keeps.formed keeps.named keeps.created b.on_level);
             pieces = pieces_of c b.basic;
             woven = subst (λ (names : List (List ℕ)). IsWovenLevel names (pieces_of c b.basic) b.body) (sym cover) b.on_level;
             once = known.once (instances c) b.basic.held b.body b.on_level;
@@ -263,15 +262,14 @@ instances_within seen (c ∷ charts) (e ∷ table) (entry_and is others) f low n
 
 module _ (built : BuiltChartsAreKnown) (known : WovenChartsAreKnown) (charts : List Chart) (formed : AreAllWellFormed charts) (texts : AllKept (BreaksOf charts) text_groups) where
   pub differ : AreDifferent (chart_names charts)
-  differ = names_differ [] charts (λ p h. texts.1.1.0 NamedTwice p (inl refl) (inl h))
+  differ = names_differ [] charts (λ p h. texts.1.0 NamedTwice p (inl refl) (inl h))
 
   module _ (shaped : HaveFormedGraphs charts) (together : AllKept (BreaksOf charts) table_groups) (drawn : AllKept (BreaksOf charts) graph_groups) where
     keeps_own : (c : Chart) → IsAmong charts c → KeepsOwn c
     keeps_own c m = record {
       formed = one_formed charts c formed m;
-      built = λ p h. texts.0 NotBuilt p (inl refl) (in_one HasUnbuilt charts c p m h);
-      named = λ p h. texts.1.1.0 Undeclared p (inr (inl refl)) (in_one ChartNamesOther charts c p m h);
-      created = λ p h. texts.1.1.1.1.1.0 CreateTwice p (inr (inr (inr (inr (inl refl))))) (in_one ChartCreatesTwice charts c p m h);
+      named = λ p h. texts.1.0 Undeclared p (inr (inl refl)) (in_one ChartNamesOther charts c p m h);
+      created = λ p h. texts.1.1.1.1.0 CreateTwice p (inr (inr (inr (inr (inl refl))))) (in_one ChartCreatesTwice charts c p m h);
       named_once = λ p h. together.1.1.0 EventNamedTwice p (inr (inl refl)) (in_one (IsMisnamedAt Twice) charts c p m h);
       shaped = own_shape charts c m shaped;
       few = own_few charts c m (few_kept charts texts);
@@ -286,7 +284,7 @@ module _ (built : BuiltChartsAreKnown) (known : WovenChartsAreKnown) (charts : L
     there i c at = entry_there charts table are differ i c at
 
     called : (c : Chart) → IsAmong charts c → (l : Link) → IsAmong (chart_links c) l → IsCalled (map summary_of charts) (linked l)
-    called c m l k = link_called charts (λ q h. texts.1.1.1.0 MissingChart q (inl refl) h) c m l k
+    called c m l k = link_called charts (λ q h. texts.1.1.0 MissingChart q (inl refl) h) c m l k
 
     -- each chart that is named is there
     all_of : (P : List ℕ → Type 0) (names : List (List ℕ)) → ((n : List ℕ) → IsAmong names n → P n) → AreAll P names
@@ -430,7 +428,7 @@ module _ (built : BuiltChartsAreKnown) (known : WovenChartsAreKnown) (charts : L
     -- ---- by the sizes that the document has
 
     none_deep : (h : OfSizes charts HaveExtents) → (q : Place) → IsTooDeep (sized_charts charts h.joined) q → ⊥
-    none_deep h q deep = texts.1.1.1.1.0 ExpandedNesting q (inl refl) (record { joined = h.joined; are = h.are; holds = deep })
+    none_deep h q deep = texts.1.1.1.0 ExpandedNesting q (inl refl) (record { joined = h.joined; are = h.are; holds = deep })
 
     pub all_there : OfSizes charts HaveExtents → EachChart (λ (e : ChartEntry). IsThereTo table EXPANDED_NESTING e.name) table
     all_there h = each_entry (λ (e : ChartEntry). IsThereTo table EXPANDED_NESTING e.name) charts table are (λ c e m is. by_name (λ n. IsThereTo table EXPANDED_NESTING n) c e is (reached h.joined h.holds (none_deep h) c m))
@@ -443,7 +441,7 @@ module _ (built : BuiltChartsAreKnown) (known : WovenChartsAreKnown) (charts : L
     accepted_table law sizes shaped together drawn ordered h = record {
       charts = are_accepted shaped together drawn table are;
       different = subst AreDifferent (sym (entry_names charts table are)) differ;
-      few_instances = instances_within [] charts table are (λ c e m is. entry_covers c e is) (omega arith) (λ p h. texts.1.0 Instances p (inr (inl refl)) h);
+      few_instances = instances_within [] charts table are (λ c e m is. entry_covers c e is) (omega arith) (λ p h. texts.0 Instances p (inr (inl refl)) h);
       there = all_there h;
       gates = gates_held charts table are together law (names_go h);
       small = each_entry (λ (e : ChartEntry). counted_size table e.name ≤ EXPANDED_SIZE) charts table are (λ c e m is. by_name (λ n. counted_size table n ≤ EXPANDED_SIZE) c e is (light c m));
@@ -479,6 +477,6 @@ module _ (built : BuiltChartsAreKnown) (known : WovenChartsAreKnown) (charts : L
             let (i, at) = index_of charts c m in
             let among = among_sized charts h.joined i c at in
             let (e, is) = h.holds (sized_at h.joined i c) among in
-            let within = within_size charts h.joined (λ q large. texts.1.1.1.1.0 Size q (inr (inl refl)) (record { joined = h.joined; are = h.are; holds = large })) (sized_at h.joined i c) e among is in
+            let within = within_size charts h.joined (λ q large. texts.1.1.1.0 Size q (inr (inl refl)) (record { joined = h.joined; are = h.are; holds = large })) (sized_at h.joined i c) e among is in
             let small : counted_size table c.name ≤ e.size = small_to h.joined sizes h.are EXPANDED_NESTING i c e at is within in
             omega (arith, small, within)

@@ -1,16 +1,12 @@
 -- What charts are woven to.
-use Rattle.std.specs.List.{flat_map}
-use Rattle.std.proofs.Common.{◌≡◌, ◌⊎◌, ◌++◌, inl, inr, ℕ, List, [], ◌∷◌, Option, Some, None, map, refl, sym, subst, ap, ◌∙◌}
-use Rattle.chart_forms.specs.NotBuilt.{IsBuilt, IsNotBuilt, not_built, not_built_graph}
-use Rattle.chart_text.specs.Texts.{a_head, chart_text, content_text}
+use Rattle.std.proofs.Common.{◌≡◌, ◌⊎◌, inl, inr, ℕ, List, Option, Some, None, refl, sym, subst, ap, ◌∙◌}
 use Rattle.general_ordering.specs.EventNames.{BreaksNameRule, EventNameRule}
 use Rattle.level_pieces.proofs.LeastLaws.{least_same}
 use Rattle.level_weaving.proofs.OneBody.{one_body}
 use Rattle.level_weaving.specs.WeaveFaults.{IsAloneIn}
 use Rattle.level_weaving.specs.declared.weaving.WeaveFault.TheVariants as fault
-use Rattle.msc_acceptance.specs.ChartFaults.{ContentCrosses, CrossesAt, HasUnbuilt, IsAloneAt, IsBodyOf, IsMisnamedAt}
+use Rattle.msc_acceptance.specs.ChartFaults.{ContentCrosses, CrossesAt, IsAloneAt, IsBodyOf, IsMisnamedAt}
 use Rattle.msc_acceptance.specs.Deciding.{IsWeaveFault, IsWovenTo}
-use Rattle.msc_base.specs.Lists.{IsAmong}
 use Rattle.msc_base.specs.Places.{IsLeast}
 use Rattle.msc_base.specs.declared.place.Place.{Place}
 use Rattle.msc_instances.specs.Instances.{instances}
@@ -23,7 +19,6 @@ use Rattle.msc_meaning.specs.WovenTables.{IsWovenContent}
 use Rattle.msc_tree.specs.Charts.{Chart, Content}
 use Rattle.msc_tree.specs.Charts as chart
 use Rattle.msc_tree.specs.Graphs.{Graph}
-use Rattle.msc_tree.specs.declared.chart.Decl.{Decl}
 use Rattle.msc_tree.specs.Statements.{Statement, statements}
 
 -- ---- a chart is woven to one body
@@ -55,29 +50,6 @@ kind_of c = by c.content refl
     by : (x : Content) → c.content ≡ x → IsBasic c ⊎ IsDrawn c
     by (chart.Basic held) e = inl (record { held = held; is = e })
     by (chart.HighLevel drawn) e = inr (record { drawn = drawn; is = e })
-
--- ---- forms that aren't built
-
--- a basic chart has no others than its statements have
-unbuilt_in : (c : Chart) (p : IsBasic c) (q : Place) → IsNotBuilt c q → HasUnbuilt c q
-unbuilt_in c p q h = subst (λ (x : Content). IsAmong (not_built_graph c.place x ++ flat_map not_built (chart_text c)) q) p.is h
-
-unbuilt_at : (c : Chart) (p : IsBasic c) (q : Place) → HasUnbuilt c q → IsNotBuilt c q
-unbuilt_at c p q h = subst (λ (x : Content). IsAmong (not_built_graph c.place x ++ flat_map not_built (chart_text c)) q) (sym p.is) h
-
-pub basic_unbuilt : (c : Chart) (p : IsBasic c) (o : Option Place) → IsLeast (IsNotBuilt c) o → IsLeast (HasUnbuilt c) o
-basic_unbuilt c p o h = least_same (IsNotBuilt c) (HasUnbuilt c) o (unbuilt_in c p) (unbuilt_at c p) h
-
-pub basic_built : (c : Chart) (p : IsBasic c) → ((q : Place) → HasUnbuilt c q → ⊥) → IsBuilt c
-basic_built c p none = λ q h. none q (unbuilt_in c p q h)
-
--- a high-level chart has only heads, and these have none
-heads_built : (decls : List Decl) (q : Place) → IsAmong (flat_map not_built (map a_head decls ++ [])) q → ⊥
-heads_built [] q h = h
-heads_built (d ∷ decls) q h = heads_built decls q h
-
-pub drawn_built : (c : Chart) (g : IsDrawn c) → IsLeast (HasUnbuilt c) None
-drawn_built c g = λ q h. heads_built c.decls q (subst (λ (x : Content). IsAmong (flat_map not_built (map a_head c.decls ++ content_text x)) q) g.is h)
 
 -- ---- high-level charts are woven to no body
 

@@ -159,7 +159,7 @@ referred_of charts summaries table are made name =
 -- ---- groups of rules
 
 pub few_kept : (charts : List Chart) → AllKept (BreaksOf charts) text_groups → HaveFewLines (charts_graphs charts)
-few_kept charts kept = few_of (charts_graphs charts) (λ q h. kept.1.0 Nodes q (inr (inr (inl refl))) h)
+few_kept charts kept = few_of (charts_graphs charts) (λ q h. kept.0 Nodes q (inr (inr (inl refl))) h)
 
 -- the rules of labels of graphs are those of charts
 labels_to : (charts : List Chart) (r : Rule) (p : Place) → IsAmong labels r → BreakLabels (charts_graphs charts) r p → BreaksOf charts r p

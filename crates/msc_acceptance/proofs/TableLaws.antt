@@ -10,7 +10,7 @@ use Rattle.refinement_rules.specs.Coregions.{HasLocalCoregion}
 use Rattle.general_ordering.specs.EventNames.{Unknown, Twice}
 use Rattle.level_weaving.specs.Exceptions.{IsMisplaced}
 use Rattle.msc_acceptance.proofs.WalkLaws.{part_step, walk_end}
-use Rattle.msc_acceptance.specs.ChartFaults.{CrossesAt, HasUnbuilt, IsAloneAt, IsMisnamedAt}
+use Rattle.msc_acceptance.specs.ChartFaults.{CrossesAt, IsAloneAt, IsMisnamedAt}
 use Rattle.msc_acceptance.specs.Deciding.{AreEarlier, AreFaultsIn, AreFaultsOf, AreOwnPlaces, AreOwnTexts, ArePartPlaces, AreTextPlaces, IsNextWoven, IsTakenIn, IsWhole, earlier_of}
 use Rattle.msc_acceptance.specs.Rules.{InOne}
 use Rattle.msc_acceptance.specs.declared.parts.PartPlaces.{PartPlaces}
@@ -51,7 +51,6 @@ least_all Holds list k found n h = walk_end (InOne Holds (map chart_view list)) 
 -- ---- what is read with the instances
 
 pub record AreTextsSoFar (list : List RawChart) (k : ℕ) (places : TextPlaces) : Type 0 where
-  pub not_built : LeastSoFar HasUnbuilt list k places.not_built
   pub high_bound : LeastSoFar HasHighBound list k places.high_bound
   pub twice : LeastSoFar ChartNamesTwice list k places.twice
   pub undeclared : LeastSoFar ChartNamesOther list k places.undeclared
@@ -60,9 +59,8 @@ pub record AreTextsSoFar (list : List RawChart) (k : ℕ) (places : TextPlaces) 
   pub behind : LeastSoFar ChartGoesOn list k places.behind
   pub coregion : LeastSoFar HasLocalCoregion list k places.coregion
 
-pub texts_start : (list : List RawChart) → AreTextsSoFar list 0 (record { not_built = None; high_bound = None; twice = None; undeclared = None; creation = None; child = None; behind = None; coregion = None })
+pub texts_start : (list : List RawChart) → AreTextsSoFar list 0 (record { high_bound = None; twice = None; undeclared = None; creation = None; child = None; behind = None; coregion = None })
 texts_start list = record {
-  not_built = narrows_start (InOne HasUnbuilt (map chart_view list));
   high_bound = narrows_start (InOne HasHighBound (map chart_view list));
   twice = narrows_start (InOne ChartNamesTwice (map chart_view list));
   undeclared = narrows_start (InOne ChartNamesOther (map chart_view list));
@@ -74,7 +72,6 @@ texts_start list = record {
 
 -- the places of both
 pub record AreEarlierTexts (a b c : TextPlaces) : Type 0 where
-  pub not_built : c.not_built ≡ earlier_of a.not_built b.not_built
   pub high_bound : c.high_bound ≡ earlier_of a.high_bound b.high_bound
   pub twice : c.twice ≡ earlier_of a.twice b.twice
   pub undeclared : c.undeclared ≡ earlier_of a.undeclared b.undeclared
@@ -86,7 +83,6 @@ pub record AreEarlierTexts (a b c : TextPlaces) : Type 0 where
 pub texts_more : (list : List RawChart) (k : ℕ) (c : RawChart) (best found next : TextPlaces) → k < length list → c ≡ get_or list k c → AreOwnTexts (chart_view c) found → AreEarlierTexts best found next
     → AreTextsSoFar list k best → AreTextsSoFar list (k + 1) next
 texts_more list k c best found next low is own made h = record {
-  not_built = least_more HasUnbuilt list k c best.not_built found.not_built next.not_built low is own.not_built made.not_built h.not_built;
   high_bound = least_more HasHighBound list k c best.high_bound found.high_bound next.high_bound low is own.high_bound made.high_bound h.high_bound;
   twice = least_more ChartNamesTwice list k c best.twice found.twice next.twice low is own.twice made.twice h.twice;
   undeclared = least_more ChartNamesOther list k c best.undeclared found.undeclared next.undeclared low is own.undeclared made.undeclared h.undeclared;
@@ -98,7 +94,6 @@ texts_more list k c best found next low is own made h = record {
 
 pub texts_all : (list : List RawChart) (k : ℕ) (places : TextPlaces) → (k < length list → ⊥) → AreTextsSoFar list k places → AreTextPlaces (map chart_view list) places
 texts_all list k places n h = record {
-  not_built = least_all HasUnbuilt list k places.not_built n h.not_built;
   high_bound = least_all HasHighBound list k places.high_bound n h.high_bound;
   twice = least_all ChartNamesTwice list k places.twice n h.twice;
   undeclared = least_all ChartNamesOther list k places.undeclared n h.undeclared;

@@ -3,7 +3,7 @@ use Rattle.std.specs.Prelude.{◌⊎◌, [], List, map}
 use Rattle.msc_base.specs.declared.place.Place.{Place}
 use Rattle.msc_tree.specs.Charts.{Chart, Document}
 use Rattle.msc_rules.specs.declared.rule.Rule.{Rule}
-use Rattle.msc_rules.specs.declared.rule.Rule.TheVariants.{Bytes, BadByte, OpenString, OpenNote, LongName, Syntax, Unsupported, TooDeep, Charts, Instances, Nodes, LoopBound, NamedTwice, Undeclared, MissingChart, Recursive, Uncovered, ExpandedNesting, Size, Total, NotShared, OperandsDiffer, ExcPlace, Crossed, Unmatched, NoGate, GateTwice, GateWays, GateSplit, GateOnLoop, DecompositionMismatch, SharedPart, Inside, LocalEvent, UnknownEvent, EventNamedTwice, Cyclic, UnknownLabel, LabelNamedTwice, Endless, CreatePlace, CreateTwice, AfterStop, NotBuilt}
+use Rattle.msc_rules.specs.declared.rule.Rule.TheVariants.{Bytes, BadByte, OpenString, OpenNote, LongName, Syntax, Unsupported, TooDeep, Charts, Instances, Nodes, LoopBound, NamedTwice, Undeclared, MissingChart, Recursive, Uncovered, ExpandedNesting, Size, Total, NotShared, OperandsDiffer, ExcPlace, Crossed, Unmatched, NoGate, GateTwice, GateWays, GateSplit, GateOnLoop, DecompositionMismatch, SharedPart, Inside, LocalEvent, UnknownEvent, EventNamedTwice, Cyclic, UnknownLabel, LabelNamedTwice, Endless, CreatePlace, CreateTwice, AfterStop}
 use Rattle.msc_rules.specs.FirstFaults.{IsFirstFault, IsFaultless}
 use Rattle.msc_rules.specs.Rules.{group_of, number_of}
 use Rattle.chart_extents.specs.ExtentRules.{AreTooLarge, IsTooDeep, IsTooLarge}
@@ -19,7 +19,7 @@ use Rattle.shared_parts.specs.PartRules.{ChartBreaksPartRule}
 use Rattle.shared_parts.specs.declared.faults.PartRule.TheVariants as part
 use Rattle.msc_meaning.specs.Tables.{Table}
 use Rattle.msc_meaning.specs.WovenTables.{IsTableOf}
-use Rattle.msc_acceptance.specs.ChartFaults.{BreaksGatesAt, BreaksRefinementAt, CrossesAt, HasUnbuilt, IsAloneAt, IsCyclicAt, IsMisnamedAt}
+use Rattle.msc_acceptance.specs.ChartFaults.{BreaksGatesAt, BreaksRefinementAt, CrossesAt, IsAloneAt, IsCyclicAt, IsMisnamedAt}
 use Rattle.gate_rules.specs.declared.faults.GateRule.TheVariants as gate
 use Rattle.general_ordering.specs.EventNames.{Unknown, Twice}
 use Rattle.refinement_rules.specs.Coregions.{HasLocalCoregion}
@@ -32,7 +32,6 @@ use Rattle.msc_acceptance.specs.SizedCharts.{OfSizes}
 
 -- the charts break the rule at that place
 abbrev pub BreaksOf : List Chart → Rule → Place → Type 0
-BreaksOf charts NotBuilt place = InOne HasUnbuilt charts place
 BreaksOf charts Charts place = IsFurther charts place
 BreaksOf charts Instances place = HasFurther [] charts place
 BreaksOf charts Nodes place = InGraphs HasFurtherLine (charts_graphs charts) place

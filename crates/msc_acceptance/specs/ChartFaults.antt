@@ -1,7 +1,6 @@
--- Where a chart has a form that isn't built, and where what charts are woven to breaks a rule: columns that cross, messages without partner, gates, decomposed instances, names of events,
+-- Where what charts are woven to breaks a rule: columns that cross, messages without partner, gates, decomposed instances, names of events,
 -- a cyclic order.
 use Rattle.std.specs.Prelude.{◌≡◌, ℕ, List, map}
-use Rattle.std.specs.List.{flat_map}
 use Rattle.chart_cycles.specs.Cycles.{IsOrdered}
 use Rattle.msc_base.specs.Lists.{IsAmong}
 use Rattle.msc_base.specs.declared.limits.TheConstants.Limits.{EXPANDED_NESTING}
@@ -14,19 +13,13 @@ use Rattle.msc_meaning.specs.Partners.{LacksPartner}
 use Rattle.msc_meaning.specs.Pieces.{statements_pieces}
 use Rattle.msc_meaning.specs.Tables as table
 use Rattle.msc_meaning.specs.WovenTables.{AreEntriesOf, IsWovenContent}
-use Rattle.chart_forms.specs.NotBuilt.{not_built}
 use Rattle.chart_links.specs.Summaries.{summary_of}
-use Rattle.chart_text.specs.Texts.{chart_text}
 use Rattle.gate_rules.specs.GateRules.{BreaksGateRule}
 use Rattle.gate_rules.specs.declared.faults.GateRule.{GateRule}
 use Rattle.general_ordering.specs.EventNames.{BreaksNameRule, EventNameRule}
 use Rattle.msc_instances.specs.Instances.{instances}
 use Rattle.refinement_rules.specs.RefinementRules.{BreaksRefinementRule}
 use Rattle.refinement_rules.specs.declared.faults.RefinementRule.{RefinementRule}
-
--- at that place the chart has a form that isn't built
-abbrev pub HasUnbuilt : Chart → Place → Type 0
-HasUnbuilt chart place = IsAmong (flat_map not_built (chart_text chart)) place
 
 -- the chart is a basic one, and its text is woven to that body
 abbrev pub IsBodyOf : Chart → Body → Type 0

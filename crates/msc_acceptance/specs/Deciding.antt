@@ -11,13 +11,13 @@ use Rattle.msc_tree.specs.Statements.{Statement, statements}
 use Rattle.msc_rules.specs.FirstFaults.{Keeps, IsFirst}
 use Rattle.msc_rules.specs.Rules.{number_of}
 use Rattle.msc_rules.specs.declared.rule.Rule.{Rule}
-use Rattle.msc_rules.specs.declared.rule.Rule.TheVariants.{NotBuilt, Charts, Instances, Nodes, LoopBound, NamedTwice, Undeclared, MissingChart, Recursive, Uncovered, ExpandedNesting, Size, Total, NotShared, OperandsDiffer, ExcPlace, CreatePlace, CreateTwice, AfterStop, Crossed, Unmatched, NoGate, GateTwice, GateWays, GateSplit, GateOnLoop, DecompositionMismatch, SharedPart, Inside, LocalEvent, UnknownEvent, EventNamedTwice, Cyclic, Endless}
+use Rattle.msc_rules.specs.declared.rule.Rule.TheVariants.{Charts, Instances, Nodes, LoopBound, NamedTwice, Undeclared, MissingChart, Recursive, Uncovered, ExpandedNesting, Size, Total, NotShared, OperandsDiffer, ExcPlace, CreatePlace, CreateTwice, AfterStop, Crossed, Unmatched, NoGate, GateTwice, GateWays, GateSplit, GateOnLoop, DecompositionMismatch, SharedPart, Inside, LocalEvent, UnknownEvent, EventNamedTwice, Cyclic, Endless}
 use Rattle.msc_meaning.specs.Bodies.{Body}
 use Rattle.msc_meaning.specs.Pieces.{statements_pieces}
 use Rattle.msc_meaning.specs.Tables.{Table}
 use Rattle.msc_meaning.specs.Views.{entry_view, table_view}
 use Rattle.msc_meaning.specs.WovenTables.{AreEntriesOf, IsEntryOf}
-use Rattle.msc_acceptance.specs.ChartFaults.{CrossesAt, HasUnbuilt, IsAloneAt, IsMisnamedAt}
+use Rattle.msc_acceptance.specs.ChartFaults.{CrossesAt, IsAloneAt, IsMisnamedAt}
 use Rattle.gate_rules.specs.GateRules.{BreaksGateRule}
 use Rattle.gate_rules.specs.declared.faults.GatePlaces.{GatePlaces}
 use Rattle.gate_rules.specs.declared.faults.GateRule.TheVariants as gate
@@ -57,9 +57,6 @@ use Rattle.refinement_rules.specs.Coregions.{HasLocalCoregion}
 use Rattle.msc_acceptance.specs.SizedCharts.{OfSizes}
 
 -- ---- groups of rules
-
-abbrev pub forms : List Rule
-forms = NotBuilt ∷ []
 
 abbrev pub limits : List Rule
 limits = Charts ∷ Instances ∷ Nodes ∷ LoopBound ∷ []
@@ -102,7 +99,7 @@ endings = Endless ∷ []
 
 -- the rules on the text
 abbrev pub text_groups : List (List Rule)
-text_groups = forms ∷ limits ∷ names ∷ references ∷ sizes ∷ parts ∷ []
+text_groups = limits ∷ names ∷ references ∷ sizes ∷ parts ∷ []
 
 -- of these, the rules on what charts name
 abbrev pub link_groups : List (List Rule)
@@ -145,7 +142,6 @@ earlier_of a (Some p) = earliest a p
 
 -- the earliest places at which a chart breaks the rules that are read with its instances
 pub record AreOwnTexts (chart : Chart) (places : TextPlaces) : Type 0 where
-  pub not_built : IsLeast (HasUnbuilt chart) places.not_built
   pub high_bound : IsLeast (HasHighBound chart) places.high_bound
   pub twice : IsLeast (ChartNamesTwice chart) places.twice
   pub undeclared : IsLeast (ChartNamesOther chart) places.undeclared
@@ -156,7 +152,6 @@ pub record AreOwnTexts (chart : Chart) (places : TextPlaces) : Type 0 where
 
 -- the earliest places at which one of the charts breaks them
 pub record AreTextPlaces (charts : List Chart) (places : TextPlaces) : Type 0 where
-  pub not_built : IsLeast (InOne HasUnbuilt charts) places.not_built
   pub high_bound : IsLeast (InOne HasHighBound charts) places.high_bound
   pub twice : IsLeast (InOne ChartNamesTwice charts) places.twice
   pub undeclared : IsLeast (InOne ChartNamesOther charts) places.undeclared

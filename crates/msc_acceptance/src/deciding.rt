@@ -5,11 +5,8 @@ ghost use Rattle.chart_text.specs.WellFormed.{AreAllWellFormed};
 ghost use Rattle.msc_rules.specs.FirstFaults.{IsBest};
 ghost use Rattle.msc_rules.specs.Rules.{number_of};
 ghost use Rattle.msc_acceptance.specs.Acceptance.{BreaksOf};
-ghost use Rattle.msc_acceptance.specs.ChartFaults.{HasUnbuilt};
-ghost use Rattle.msc_acceptance.specs.Deciding.{AreFaultsIn, AreTextPlaces, HaveExtents, IsDecided, IsFirstOf, IsReading, IsSettled, IsWhole, body_groups, creations, forms, graph_groups, limits, names, parts, table_groups, text_groups};
-ghost use Rattle.msc_acceptance.specs.Rules.{InOne};
+ghost use Rattle.msc_acceptance.specs.Deciding.{AreFaultsIn, AreTextPlaces, HaveExtents, IsDecided, IsFirstOf, IsReading, IsSettled, IsWhole, body_groups, creations, graph_groups, limits, names, parts, table_groups, text_groups};
 ghost use Rattle.msc_acceptance.specs.SizedCharts.{OfSizes};
-ghost use Rattle.msc_base.specs.Places.{IsLeast};
 ghost use Rattle.msc_meaning.specs.Tables.{Table};
 ghost use Rattle.msc_tree.specs.Charts.{Chart};
 ghost use Rattle.msc_tree.specs.Views.{chart_view};
@@ -26,7 +23,7 @@ use crate::refinements::{KnownRefinements, known_links};
 use crate::tables::{BodyFaults, woven_charts};
 use crate::walks::earlier;
 use graph_rules::further_line;
-use msc_base::{NoMemory, Place};
+use msc_base::NoMemory;
 use msc_rules::{Broken, Rule, broken_at, earlier_fault};
 use msc_tree::RawChart;
 use std::alloc::Global;
@@ -39,13 +36,6 @@ pub enum Decision {
     Accepted(Accepted),
     /// Its first fault.
     Faulty(Broken<Rule>),
-}
-
-/// The first form that isn't built.
-fn form_fault(not_built: Option<Place>) -> Option<Broken<Rule>>
-    ensures { (charts : List Chart) → IsLeast (InOne HasUnbuilt charts) not_built → IsBest number_of (BreaksOf charts) forms result }
-{
-    broken_at(Rule::NotBuilt, not_built)
 }
 
 /// The first fault by the limits, by what is read of the charts.
@@ -126,9 +116,6 @@ fn text_fault(
     ensures first { IfOk result (IsFirstOf (map chart_view charts.now) text_groups) }
     ensures extents { IfOk result (λ fault. fault ≡ None → OfSizes (map chart_view charts.now) HaveExtents) }
 {
-    if let Some(fault) = form_fault(reading.places.not_built) {
-        return Ok(Some(fault));
-    }
     if let Some(fault) = limit_fault(alloc, charts, reading)? {
         return Ok(Some(fault));
     }

@@ -2,13 +2,10 @@
 
 ghost use Rattle.std.specs.Prelude.{◌≡◌, IfOk, None, map};
 ghost use Rattle.chart_forms.specs.TiedTexts.{is_tied_text};
-ghost use Rattle.chart_text.specs.PassageViews.{text_view};
 ghost use Rattle.chart_text.specs.Texts.{chart_text as text_of};
-ghost use Rattle.msc_acceptance.specs.ChartFaults.{HasUnbuilt};
 ghost use Rattle.msc_acceptance.specs.Deciding.{AreOwnTexts, AreTextPlaces, earlier_of};
 ghost use Rattle.msc_acceptance.specs.RefinedTexts.{is_refined_chart};
 ghost use Rattle.msc_acceptance.specs.SingleItems.{is_single_chart};
-ghost use Rattle.msc_base.specs.Places.{IsLeast};
 ghost use Rattle.msc_instances.specs.Instances.{instances};
 ghost use Rattle.msc_tree.specs.Charts.{Chart};
 ghost use Rattle.msc_tree.specs.Views.{chart_view};
@@ -16,20 +13,18 @@ ghost use Rattle.msc_tree.specs.Views.{chart_view};
 use crate::refinements::is_refined;
 use crate::singles::holds_singles;
 use crate::walks::earlier;
-use chart_forms::{first_high_bound, first_not_built, ties_gates};
-use chart_text::{Passage, chart_text};
+use chart_forms::{first_high_bound, ties_gates};
+use chart_text::chart_text;
 use creation_rules::{behind_stop, created_twice, misplaced_creation};
 use msc_base::{Items, Names, NoMemory, Place};
 use msc_instances::chart_names;
-use msc_tree::{Content, RawChart};
+use msc_tree::RawChart;
 use refinement_rules::local_coregion;
 use std::alloc::Global;
 
 /// The earliest places at which charts break the rules that are read with their instances.
 #[derive(Clone, Copy, Debug, PartialEq, Eq)]
 pub struct TextPlaces {
-    /// Of a form that isn't built yet.
-    pub not_built: Option<Place>,
     /// Of a loop with a bound above the limit.
     pub high_bound: Option<Place>,
     /// Of a decomposed instance or a part that is named a second time in its chart.
@@ -75,7 +70,6 @@ pub struct Reading {
 
 /// The earlier places of both.
 fn earlier_places(places: TextPlaces, others: TextPlaces) -> TextPlaces
-    ensures not_built { result.not_built ≡ earlier_of places.not_built others.not_built }
     ensures high_bound { result.high_bound ≡ earlier_of places.high_bound others.high_bound }
     ensures twice { result.twice ≡ earlier_of places.twice others.twice }
     ensures undeclared { result.undeclared ≡ earlier_of places.undeclared others.undeclared }
@@ -85,7 +79,6 @@ fn earlier_places(places: TextPlaces, others: TextPlaces) -> TextPlaces
     ensures coregion { result.coregion ≡ earlier_of places.coregion others.coregion }
 {
     TextPlaces {
-        not_built: earlier(places.not_built, others.not_built),
         high_bound: earlier(places.high_bound, others.high_bound),
         twice: earlier(places.twice, others.twice),
         undeclared: earlier(places.undeclared, others.undeclared),
@@ -93,21 +86,6 @@ fn earlier_places(places: TextPlaces, others: TextPlaces) -> TextPlaces
         child: earlier(places.child, others.child),
         behind: earlier(places.behind, others.behind),
         coregion: earlier(places.coregion, others.coregion),
-    }
-}
-
-/// The earliest place of a chart, whose text that is, at which a form stands that isn't built.
-fn first_unbuilt(
-    alloc: Global,
-    chart: &RawChart,
-    text: &[Passage<'_>],
-) -> Result<Option<Place>, NoMemory>
-    requires { text_view text.now ≡ text_of (chart_view chart.now) }
-    ensures { IfOk result (IsLeast (HasUnbuilt (chart_view chart.now))) }
-{
-    match &chart.content {
-        Content::Events(_) => first_not_built(alloc, chart, text),
-        Content::Graph(_) => Ok(None),
     }
 }
 
@@ -120,7 +98,6 @@ fn read_chart(alloc: Global, chart: &RawChart) -> Result<ChartText, NoMemory>
     ensures places { IfOk result (λ text. AreOwnTexts (chart_view chart.now) text.places) }
 {
     let text = chart_text(alloc, chart)?;
-    let not_built = first_unbuilt(alloc, chart, text.as_slice())?;
     let high_bound = first_high_bound(alloc, chart, text.as_slice())?;
     let named = chart_names(alloc, chart, text.as_slice())?;
     let creation = misplaced_creation(alloc, chart, text.as_slice())?;
@@ -133,7 +110,6 @@ fn read_chart(alloc: Global, chart: &RawChart) -> Result<ChartText, NoMemory>
         tied: ties_gates(text.as_slice()),
         refined: is_refined(text.as_slice()),
         places: TextPlaces {
-            not_built,
             high_bound,
             twice: named.twice,
             undeclared: named.undeclared,
@@ -160,7 +136,6 @@ pub fn read_charts(alloc: Global, charts: &[RawChart]) -> Result<Reading, NoMemo
     let mut tied = Items::new(alloc);
     let mut refined = Items::new(alloc);
     let mut places = TextPlaces {
-        not_built: None,
         high_bound: None,
         twice: None,
         undeclared: None,

@@ -1,5 +1,5 @@
--- What is read of a text is well formed: its events and coregions stand at one instance, its inline expressions have as many operands as
--- their forms take, what is put together in the expressions of its references has two parts at least.
+-- What is read of a text is well formed: its events and coregions stand at one instance, what they create is an instance, its inline
+-- expressions have as many operands as their forms take, what is put together in the expressions of its references has two parts at least.
 use Rattle.std.specs.Prelude.{⊤}
 use Rattle.std.proofs.Common.{ℕ, zero, suc, ◌≡◌, ◌++◌, true, List, [], ◌∷◌, map, codes, refl}
 use Rattle.msc_base.specs.declared.place.Place.{Place}
@@ -14,10 +14,10 @@ use Rattle.token_grammar.specs.Languages.{Set, just}
 use Rattle.token_grammar.specs.Grammars.{Grammar, Inner, shut, inner, seq, or, read_as, behind}
 use Rattle.token_grammar.specs.Parts.{ending, lead, name, name_list}
 use Rattle.chart_text.specs.Texts.{Scope, Whole, Side, Standing, Passage, a_head, inside, items_text, item_text, operands_text, operand_held, statement_held, statements_text, content_text}
-use Rattle.chart_text.proofs.StandingLaws.{each_behind}
-use Rattle.chart_text.specs.WellFormed.{is_at_one, is_well_formed, takes, AreWellFormed, IsWellFormed, AreAllWellFormed}
+use Rattle.chart_text.proofs.StandingLaws.{both, each_behind}
+use Rattle.chart_text.specs.WellFormed.{are_well_formed_events, is_at_one, is_well_formed, is_well_formed_event, takes, AreWellFormed, IsWellFormed, AreAllWellFormed}
 use Rattle.msc_events.specs.Declarations.{decl, declaration, head, heading, declared_by}
-use Rattle.msc_events.specs.Events.{single, coregion, stop}
+use Rattle.msc_events.specs.Events.{stop}
 use Rattle.msc_events.specs.Multis.{condition}
 use Rattle.msc_events.specs.declared.orientation.Orientation.{Orientation}
 use Rattle.msc_events.specs.declared.orientation.Orientation.TheVariants as written
@@ -28,6 +28,7 @@ use Rattle.msc_document.specs.Inlines.{Naming, Tail, each, several, body, alt_ta
 use Rattle.msc_document.specs.FormedDocuments.{DocumentsAreWellFormed}
 use Rattle.msc_document.specs.DocumentGrammar.{naming, multi_of, event_of, column_operand, column_event, LedLine, happen, list, declare, finish, lead_statement, some, outside_operand, outside_event, outside_multi, covered_in, covered, statement, content, chart, chart_of, perhaps, document, chart_end}
 use Rattle.msc_document.proofs.Giving.{Gives, Each, Within, IsSome, IsOne, anything, weaker, read_gives, or_gives, seq_gives, behind_gives, placed_gives, bounded_gives, each_gives, some_gives, opens_gives, several_gives, single_gives}
+use Rattle.msc_document.proofs.FormedEvents.{coregion_formed, single_formed}
 use Rattle.msc_document.proofs.FormedExpressions.{HasParts, expression_formed, reference_formed}
 
 formed_behind : (xs ys : List Passage) → AreWellFormed xs → AreWellFormed ys → AreWellFormed (xs ++ ys)
@@ -111,8 +112,8 @@ module _ {A : Type 0} (f : A → Operand) (At : Side → Type 0) where
 
   event_formed : ((side : Side) → At side → is_at_one side ≡ true) → (orientation : Orientation) (X : Grammar Expression) → Gives X HasParts → (P : Inner A) → Within P IsHeld
       → Gives (event_of orientation f X P) (IsFormedAt At)
-  event_formed one orientation X x P w = or_gives (read_gives (λ e. tree.placed e.place (Single e)) (weaker (anything single) (λ e h s at. (one s.side at, tt))))
-      (or_gives (read_gives (λ p. tree.placed p.0 (Coregion p.1)) (weaker (anything coregion) (λ p h s at. (one s.side at, tt))))
+  event_formed one orientation X x P w = or_gives (read_gives (λ e. tree.placed e.place (Single e)) (weaker single_formed (λ e h s at. (both (is_at_one s.side) (is_well_formed_event e) (one s.side at) h, tt))))
+      (or_gives (read_gives (λ p. tree.placed p.0 (Coregion p.1)) (weaker coregion_formed (λ p h s at. (both (is_at_one s.side) (are_well_formed_events p.1) (one s.side at) h, tt))))
       (or_gives (multi_formed orientation X x P w) (read_gives (λ place. tree.placed place Stop) (weaker (anything stop) (λ p h s at. (refl, tt))))))
 
 items_formed : (At : Side → Type 0) (held : List Item) (s : Standing) → At s.side → Each (IsFormedAt At) held → AreWellFormed (items_text s (items held))

@@ -7,6 +7,7 @@ pub mod DocumentRules
 pub mod DrawnGraphs
 pub mod Firsts
 pub mod Formed
+pub mod FormedEvents
 pub mod FormedExpressions
 pub mod Giving
 pub mod Goings

@@ -11,8 +11,8 @@ ghost use Rattle.msc_document.specs.FormedGraphs.{GraphsAreFormed};
 
 /// Tokens read as at most one document, and what the reader of documents answers at each number of levels is that
 /// document, or the first token that is refused or opens a level too many. In a document that is read events and coregions stand
-/// at one instance, inline expressions have as many operands as their forms take, and what is put together in an expression has two
-/// parts at least.
+/// at one instance, what is created is an instance, inline expressions have as many operands as their forms take, and what is put
+/// together in an expression has two parts at least.
 pub fn documents_are_exact()
     ensures one { OneReading document }
     ensures exact { (n : ℕ) (tokens : List Token) → IsExact document n tokens (document_at n tokens) }

@@ -158,8 +158,6 @@ pub enum Rule {
     CreateTwice,
     /// An item behind its column's `stop`.
     AfterStop,
-    /// What isn't built yet.
-    NotBuilt,
 }
 
 impl Rule {
@@ -211,12 +209,11 @@ impl Rule {
             Rule::CreatePlace => "create placed",
             Rule::CreateTwice => "created twice",
             Rule::AfterStop => "event after stop",
-            Rule::NotBuilt => "not built yet",
         }
     }
 
-    /// The rule's group, from 0: bytes, tokens, grammar, what isn't built, limits, names, references, sizes, parts, weaving,
-    /// messages, gates, decomposition, event names, cycles, labels, graphs. The groups are looked at in this order.
+    /// The rule's group, from 0: bytes, tokens, grammar, limits, names, references, sizes, parts, weaving, messages,
+    /// gates, decomposition, event names, cycles, labels, graphs. The groups are looked at in this order.
     pub fn group(&self) -> u32
         ensures { result ≡ group_of self.now }
     {
@@ -224,26 +221,25 @@ impl Rule {
             Rule::Bytes => 0,
             Rule::BadByte | Rule::OpenString | Rule::OpenNote | Rule::LongName => 1,
             Rule::Syntax | Rule::Unsupported(_) | Rule::TooDeep => 2,
-            Rule::NotBuilt => 3,
-            Rule::Charts | Rule::Instances | Rule::Nodes | Rule::LoopBound => 4,
-            Rule::NamedTwice | Rule::Undeclared => 5,
-            Rule::MissingChart | Rule::Recursive | Rule::Uncovered => 6,
-            Rule::ExpandedNesting | Rule::Size | Rule::Total => 7,
+            Rule::Charts | Rule::Instances | Rule::Nodes | Rule::LoopBound => 3,
+            Rule::NamedTwice | Rule::Undeclared => 4,
+            Rule::MissingChart | Rule::Recursive | Rule::Uncovered => 5,
+            Rule::ExpandedNesting | Rule::Size | Rule::Total => 6,
             Rule::NotShared
             | Rule::OperandsDiffer
             | Rule::ExcPlace
             | Rule::CreatePlace
             | Rule::CreateTwice
-            | Rule::AfterStop => 8,
-            Rule::Crossed => 9,
-            Rule::Unmatched => 10,
+            | Rule::AfterStop => 7,
+            Rule::Crossed => 8,
+            Rule::Unmatched => 9,
             Rule::NoGate | Rule::GateTwice | Rule::GateWays | Rule::GateSplit | Rule::GateOnLoop =>
-                11,
-            Rule::DecompositionMismatch | Rule::SharedPart | Rule::Inside | Rule::LocalEvent => 12,
-            Rule::UnknownEvent | Rule::EventNamedTwice => 13,
-            Rule::Cyclic => 14,
-            Rule::UnknownLabel | Rule::LabelNamedTwice => 15,
-            Rule::Endless => 16,
+                10,
+            Rule::DecompositionMismatch | Rule::SharedPart | Rule::Inside | Rule::LocalEvent => 11,
+            Rule::UnknownEvent | Rule::EventNamedTwice => 12,
+            Rule::Cyclic => 13,
+            Rule::UnknownLabel | Rule::LabelNamedTwice => 14,
+            Rule::Endless => 15,
         }
     }
 }
@@ -295,10 +291,9 @@ impl Numbered for Rule {
             Rule::UnknownLabel => 38,
             Rule::LabelNamedTwice => 39,
             Rule::Endless => 40,
-            Rule::NotBuilt => 41,
-            Rule::CreatePlace => 42,
-            Rule::CreateTwice => 43,
-            Rule::AfterStop => 44,
+            Rule::CreatePlace => 41,
+            Rule::CreateTwice => 42,
+            Rule::AfterStop => 43,
         }
     }
 }

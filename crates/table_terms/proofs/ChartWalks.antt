@@ -1,5 +1,5 @@
 -- What the expansion of a chart is, by its content: a walk, or a tied part.
-use Rattle.std.specs.Prelude.{ℕ, zero, suc, List, [], ◌∷◌, Some}
+use Rattle.std.specs.Prelude.{ℕ, suc, List, [], ◌∷◌, Some}
 use Rattle.std.proofs.Common.{◌≡◌, ◌∙◌, refl, sym, ap, subst}
 use Rattle.msc_base.specs.declared.label.LabelRef.{LabelRef}
 use Rattle.msc_base.specs.declared.label.Pair.{Pair}

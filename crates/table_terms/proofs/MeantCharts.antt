@@ -27,8 +27,8 @@ use Rattle.expansion_tree.specs.declared.tree.ExpandedEvent.{ExpandedEvent}
 use Rattle.expanded_charts.specs.Expanding.{NumberedEvent, expand_charts, expand_lines}
 use Rattle.gate_ends.specs.FoundEnds.{table_ends}
 use Rattle.expansion_terms.specs.ExpansionTerms.{event_term, numbered_term, part_terms}
-use Rattle.expansion_terms.specs.MadeTerms.{AreWalksMade, IsWalkOf, Made, MadeTermsAgree, judged, made, made_all, net_of_shape, newest_walk, walk_at}
-use Rattle.expanded_terms.specs.ExpandedLaws.{ExpandedTermsMean, IsBasicChart, IsJudgedGraph}
+use Rattle.expansion_terms.specs.MadeTerms.{AreWalksMade, IsWalkOf, MadeTermsAgree, judged, made, made_all, net_of_shape, newest_walk, walk_at}
+use Rattle.expanded_terms.specs.ExpandedLaws.{ExpandedTermsMean, IsBasicChart}
 use Rattle.expanded_terms.specs.ExpandedTerms.{Leaves, charts_to, lines_terms}
 use Rattle.expanded_terms.specs.ExpansionLaws as by_leaves
 use Rattle.expanded_terms.specs.ExpansionLaws.{ExpansionsHaveTerms}
@@ -41,7 +41,7 @@ use Rattle.made_terms.specs.DrawnWalks.{AreEnding, IsDrawnGraph, IsEndingTo, Wal
 use Rattle.made_terms.proofs.WalkNumbers.{nums, walks_once}
 use Rattle.expanded_terms.specs.ExpansionNumbers.{CountFrom}
 use Rattle.table_terms.specs.SoundGraphs.{IsJudgedContent, IsJudgedTo}
-use Rattle.table_terms.specs.TableTerms.{chart_expansion, chart_made, chart_numbering, numbered_chart}
+use Rattle.table_terms.specs.TableTerms.{chart_expansion, chart_numbering, numbered_chart}
 use Rattle.table_terms.proofs.ChartWalks.{IsTiedPart, line_names, tied_is, walk_is, whole_lines}
 use Rattle.table_terms.proofs.EachWalks.{all_walks_mapped, both_walks, both_walks_in, walks_mapped}
 use Rattle.table_terms.proofs.NumberedCharts.{chart_nameable, chart_same, event_same, named_once}

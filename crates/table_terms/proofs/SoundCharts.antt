@@ -1,9 +1,7 @@
 -- The term of a chart, and its nets, are sound.
 use Rattle.std.specs.Prelude.{ℕ, ◌<◌, ◌≤◌, List, [], length}
-use Rattle.std.proofs.Common.{◌≡◌, ◌∙◌, refl, sym, ap, subst, arith}
-use Rattle.std.proofs.Math.Path.{fun_ext}
+use Rattle.std.proofs.Common.{◌≡◌, refl, sym, subst, arith}
 use Rattle.msc_base.specs.declared.label.Label.{Label}
-use Rattle.msc_base.specs.declared.label.LabelRef.{LabelRef}
 use Rattle.msc_base.specs.declared.limits.TheConstants.Limits.{EXPANDED_NESTING, NODE_LINES}
 use Rattle.msc_base.specs.Orders.{Among}
 use Rattle.std.proofs.lemmas.List.{length-map}
@@ -12,10 +10,9 @@ use Rattle.hmsc_graph.specs.declared.shape.ShapeLine.{ShapeLine}
 use Rattle.term_laws.specs.FullSoundness.{AreSoundNets, IsFullySound}
 use Rattle.term_tables.specs.NetValues.{NetsValue}
 use Rattle.msc_tree.specs.Graphs.{graph, Lines}
-use Rattle.graph_shapes.specs.GraphShapes.{shape_of}
 use Rattle.msc_meaning.specs.FarEnds.{no_gates}
-use Rattle.msc_meaning.specs.Tables.{ChartEntry, Table, chart_at, Woven, Basic, HighLevel, refinements}
-use Rattle.expansion_tree.specs.Expansions.{Expansion, Walk, events_in, map_all_events, map_events}
+use Rattle.msc_meaning.specs.Tables.{Table, Woven, Basic, HighLevel, refinements}
+use Rattle.expansion_tree.specs.Expansions.{Expansion, events_in, map_all_events, map_events}
 use Rattle.expansion_tree.specs.Numbered as numbered
 use Rattle.expansion_tree.specs.Walks.{EachWalk}
 use Rattle.expansion_tree.specs.declared.tree.ExpandedEvent.{ExpandedEvent}
@@ -32,8 +29,8 @@ use Rattle.expanded_terms.specs.RankedTerms.{EachTie, IsOwn, expanded_number}
 use Rattle.expanded_terms.proofs.GateTies.{gate_ties_free, outside_ties}
 use Rattle.expanded_terms.proofs.RankedChartTerms.{chart_counted, chart_labelled, numbered_event, numbered_expansion, own_ties}
 use Rattle.expanded_terms.proofs.TiesWithin.{ties_within}
-use Rattle.node_ranks.specs.NamedCharts.{IsNestedTo, WovenNamesOnly}
-use Rattle.node_ranks.specs.NodeRanks.{AreRankedAlone, EachPart, HasColumns, IsRankedAlone, KeepsNumbers, NodesAreRanked, TellsNames}
+use Rattle.node_ranks.specs.NamedCharts.{WovenNamesOnly}
+use Rattle.node_ranks.specs.NodeRanks.{AreRankedAlone, EachPart, NodesAreRanked}
 use Rattle.made_terms.specs.DrawnWalks.{AreEnding, IsDrawnGraph, IsEndingTo, WalksAreDrawn, woven_graphs}
 use Rattle.made_terms.specs.MadeTerms.{AreEndsEmpty, CanBeMade, IsSoundGraph, MadeTermsAreSound}
 use Rattle.table_terms.specs.SoundGraphs.{HasSoundGraphs, IsJudgedContent, IsJudgedTo}

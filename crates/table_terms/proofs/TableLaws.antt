@@ -1,5 +1,5 @@
 -- The laws of the term of a chart of a table, from those of expansions.
-use Rattle.std.specs.Prelude.{ℕ, ◌≤◌, List, [], length}
+use Rattle.std.specs.Prelude.{◌≤◌, ◌+◌, List, [], length}
 use Rattle.std.proofs.Common.{◌≡◌, ◌∙◌, sym, ap, subst}
 use Rattle.msc_base.specs.Orders.{Among}
 use Rattle.chart_forms.specs.TableSizes.{counted_size}
@@ -18,9 +18,10 @@ use Rattle.expanded_charts.specs.Expanding.{NumberedEvent}
 use Rattle.gate_ends.specs.EndLaws.{EndsAreFound}
 use Rattle.expansion_terms.specs.MadeTerms.{MadeTermsAgree, made}
 use Rattle.expanded_terms.specs.ExpandedLaws.{ExpandedTermsMean}
-use Rattle.expanded_terms.specs.ExpansionLaws.{ExpansionsHaveTerms}
+use Rattle.expanded_terms.specs.ExpansionLaws.{ExpansionsHaveTerms, ExpansionsHold}
 use Rattle.expanded_terms.specs.JoinProducts.{ChartsAreLight}
 use Rattle.expanded_terms.specs.NamedEvents.{event_named}
+use Rattle.expanded_terms.specs.NetWeights.{nets_weight}
 use Rattle.expanded_terms.specs.PlacedTerms.{EventsArePlaced, places}
 use Rattle.expanded_terms.specs.WholeCharts.{WholeChartsAreFit}
 use Rattle.expanded_terms.proofs.RankedChartTerms.{mapped_events, numbered_event}
@@ -28,7 +29,7 @@ use Rattle.node_ranks.specs.NodeRanks.{NodesAreRanked}
 use Rattle.made_terms.specs.DrawnWalks.{WalksAreDrawn}
 use Rattle.made_terms.specs.MadeTerms.{MadeTermsAreSound}
 use Rattle.table_terms.specs.TableLaws.{TableTermsAreLight, TableTermsArePlaced, TableTermsAreSound, TableTermsMean}
-use Rattle.table_terms.specs.TableTerms.{IsTermOf, chart_expansion, chart_made, chart_tables, numbered_chart}
+use Rattle.table_terms.specs.TableTerms.{chart_expansion, chart_made, numbered_chart}
 use Rattle.table_terms.proofs.LightCharts.{chart_light}
 use Rattle.table_terms.proofs.MeantCharts.{chart_means, judged_tables}
 use Rattle.table_terms.proofs.NumberedCharts.{chart_nameable, chart_same}
@@ -46,9 +47,10 @@ table_terms_are_sound drawn nodes law sound table name v x h quiet is can =
     subst (λ (v : NetsValue). IsFullySound (length v.labels) v.tables x) (sym is.nets)
     (subst (λ (x : Tree). IsFullySound (length (the_labels table name)) (chart_made table name).tables x) (sym is.term) (chart_sound table name drawn nodes law sound h quiet can))
 
-pub table_terms_are_light : MadeTermsAgree → ChartsAreLight → ExpansionsHaveTerms → TableTermsAreLight
-table_terms_are_light agree light have table name v x h is few =
-    subst (λ (x : Tree). weight x ≤ counted_size table name) (sym is.term) (chart_light agree have light table name (counted table name) h.judged few)
+pub table_terms_are_light : MadeTermsAgree → ChartsAreLight → ExpansionsHaveTerms → ExpansionsHold → TableTermsAreLight
+table_terms_are_light agree light have hold table name v x h is few =
+    subst (λ (v : NetsValue). weight x + nets_weight v.tables ≤ counted_size table name) (sym is.nets)
+    (subst (λ (x : Tree). weight x + nets_weight (chart_made table name).tables ≤ counted_size table name) (sym is.term) (chart_light agree have hold light table name (counted table name) h.judged few))
 
 pub table_terms_are_placed : EventsArePlaced → TableTermsArePlaced
 table_terms_are_placed law table name v x h child = subst (λ (v : NetsValue). HaveOnePlace v.tables x) (sym h.nets) (subst (λ (x : Tree). HaveOnePlace (chart_made table name).tables x) (sym h.term) made_placed)

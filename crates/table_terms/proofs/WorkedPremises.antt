@@ -1,5 +1,5 @@
 -- A worked chart meets what the laws ask.
-use Rattle.std.specs.Prelude.{ℕ, zero, suc, ◌<◌, Bool, true, false, List, [], ◌∷◌, Option, Some, None, codes, if◌then◌else◌}
+use Rattle.std.specs.Prelude.{ℕ, zero, suc, ◌<◌, Bool, true, false, List, [], ◌∷◌, Some, None, codes, if◌then◌else◌}
 use Rattle.std.specs.Str.{bytes_eq}
 use Rattle.std.proofs.lemmas.Slice.Eq.{bytes_eq-Decides}
 use Rattle.std.proofs.Common.{◌≡◌, refl, sym, subst, arith}
@@ -23,7 +23,7 @@ use Rattle.msc_meaning.specs.MeaningLaws.{HaveOneEnd}
 use Rattle.msc_meaning.specs.WorkedCharts.{i}
 use Rattle.msc_meaning.specs.WorkedParts.{action, node, somewhere}
 use Rattle.expanded_terms.specs.PlacedTerms.{child_of}
-use Rattle.msc_meaning.specs.Tables.{ChartEntry, chart_at, Basic}
+use Rattle.msc_meaning.specs.Tables.{ChartEntry, Basic}
 use Rattle.node_ranks.specs.NamedCharts.{IsNestedTo}
 use Rattle.made_terms.specs.DrawnWalks.{IsEndingTo}
 use Rattle.table_terms.specs.SoundGraphs.{IsJudgedTo}

@@ -1,5 +1,5 @@
 -- The laws of the term of a chart of a table.
-use Rattle.std.specs.Prelude.{◌≡◌, ◌≤◌, ℕ, List, length}
+use Rattle.std.specs.Prelude.{◌≡◌, ◌≤◌, ◌+◌, ℕ, List, length}
 use Rattle.msc_base.specs.declared.limits.TheConstants.Limits.{EXPANDED_NESTING}
 use Rattle.msc_base.specs.Orders.{Among}
 use Rattle.chart_term.specs.Terms.{Tree, weight}
@@ -15,6 +15,7 @@ use Rattle.gate_ends.specs.FoundEnds.{table_ends}
 use Rattle.expansion_order.specs.Ranks.{CanBeRanked}
 use Rattle.chart_forms.specs.TableSizes.{counted_size}
 use Rattle.expanded_terms.specs.JoinProducts.{IsFewTo}
+use Rattle.expanded_terms.specs.NetWeights.{nets_weight}
 use Rattle.expanded_terms.specs.PlacedTerms.{child_of}
 use Rattle.expanded_terms.specs.GateTies.{IsQuietTable}
 use Rattle.expanded_terms.specs.WholeCharts.{IsWholeTo}
@@ -30,9 +31,9 @@ TableTermsMean = (table : Table) (name : List ℕ) (v : NetsValue) (x : Tree) �
 abbrev pub TableTermsAreSound : Type 0
 TableTermsAreSound = (table : Table) (name : List ℕ) (v : NetsValue) (x : Tree) → HasSoundGraphs table name → IsQuietTable table → IsTermOf table name v x → CanBeRanked (numbered_chart table name) → IsFullySound (length v.labels) v.tables x
 
--- it weighs no more than the chart's expanded size, where each level has few pairs of its own
+-- it weighs, with the terms of the nodes of its nets, no more than the chart's expanded size, where each level has few pairs of its own
 abbrev pub TableTermsAreLight : Type 0
-TableTermsAreLight = (table : Table) (name : List ℕ) (v : NetsValue) (x : Tree) → HasSoundGraphs table name → IsTermOf table name v x → IsFewTo table EXPANDED_NESTING name → weight x ≤ counted_size table name
+TableTermsAreLight = (table : Table) (name : List ℕ) (v : NetsValue) (x : Tree) → HasSoundGraphs table name → IsTermOf table name v x → IsFewTo table EXPANDED_NESTING name → weight x + nets_weight v.tables ≤ counted_size table name
 
 -- events of one label have the same instances, in a term and its nets, where the second instance of each is the one that its label gives
 abbrev pub TableTermsArePlaced : Type 0

@@ -5,7 +5,7 @@ ghost use Rattle.table_terms.specs.WorkedPremises.{PremisesAreMet};
 
 use expanded_terms::{
     charts_are_light, events_are_placed, expanded_terms_mean, expansions_have_terms,
-    whole_charts_are_fit,
+    expansions_hold, whole_charts_are_fit,
 };
 use expansion_terms::laws::made_terms_agree;
 use gate_ends::ends_are_found;
@@ -36,13 +36,14 @@ pub fn table_terms_are_sound()
     made_terms_are_sound();
 }
 
-/// The term of a chart weighs no more than the chart's expanded size.
+/// The term of a chart, with the terms of the nodes of its nets, weighs no more than the chart's expanded size.
 pub fn table_terms_are_light()
     ensures { TableTermsAreLight }
 {
     made_terms_agree();
     charts_are_light();
     expansions_have_terms();
+    expansions_hold();
 }
 
 /// Events of one label have the same instances.

@@ -121,6 +121,13 @@ module _ (w : Tables) (n : ℕ) (c : List ℕ) (s : Spot) (ms ns : List ℕ) (ne
       let here : IsIn j ms = (h.passes j).1 (last j k (eq-eqb j j refl), l) in
       step j k here (walk_on j t here u)
 
+  -- the nodes that walks through the passable ones reach are those that walks through the allowed ones reach
+  pub reached-exact : (f : Net) → f ≡ net_of w n → (rs : List ℕ) → ((m : ℕ) → IsIn m rs ↔ WalkThrough f ms s (To m)) → (m : ℕ) → IsIn m rs ↔ WalkThrough g ks s (To m)
+  reached-exact f same rs r m = (
+    λ i. more_allowed to_allowed (subst (λ (e : Net). WalkThrough e ms s (To m)) same ((r m).0 i)),
+    λ v. (r m).1 (subst (λ (e : Net). WalkThrough e ms s (To m)) (sym same) (walk_begun (To m) v)),
+  )
+
   module _ (t : Goal) (a : IsAimed t) where
     leads_reach : (f : Spot) → Leads g ms f t → reach g ks f t ≡ true
     leads_reach f i = reach_whole g ks f t (more_allowed to_allowed (lead_walk g ms f t a i))

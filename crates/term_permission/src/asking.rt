@@ -357,7 +357,7 @@ pub(crate) fn ask_walk(
 /// Permission is asked once of each node that is reached, and of no other.
 #[cycle(ask)]
 #[tactic(auto, using(crate::proofs::PermitWalks::walks))]
-fn passable(
+pub(crate) fn passable(
     alloc: Global,
     nets: &Nets,
     net: u32,

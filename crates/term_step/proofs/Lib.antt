@@ -11,6 +11,7 @@ pub mod Searching
 pub mod Visits
 pub mod Passes
 pub mod Placed
+pub mod Unreached
 pub mod Copies
 pub mod AllAfter
 pub mod KeptNumbers

@@ -359,13 +359,10 @@ module _ (w : Tables) (a : ℕ) (x : Tree) (lo : ℕ) (hi : Option ℕ) (ps : Li
 
 -- the nodes of a walk
 module _ (w : Tables) (a : ℕ) (n : ℕ) (f : Spot) (t : Goal) (c : List ℕ) (from : ℕ) where
-  pub node-over : (p : ℕ) → IsChildOr a (kept_of w n p c) None → IsPassed w a (Walk n f t c) p
-  node-over p h = passed-lacking w a (Walk n f t c) p h
-
-  pub node-more : (p : ℕ) → ((q : ℕ) → from ≤ q → q < p → IsPassed w a (Walk n f t c) q) → IsChildOr a (kept_of w n p c) None → (q : ℕ) → from ≤ q → q < p + 1 → IsPassed w a (Walk n f t c) q
+  pub node-more : (p : ℕ) → ((q : ℕ) → from ≤ q → q < p → IsPassed w a (Walk n f t c) q) → IsPassed w a (Walk n f t c) p → (q : ℕ) → from ≤ q → q < p + 1 → IsPassed w a (Walk n f t c) q
   node-more p h e q l m = elim (cut q p) [
     | inl b ↦ h q l b
-    | inr b ↦ subst (λ (i : ℕ). IsPassed w a (Walk n f t c) i) (omega arith) (node-over p e)
+    | inr b ↦ subst (λ (i : ℕ). IsPassed w a (Walk n f t c) i) (omega arith) e
   ]
     where
       cut : (q p : ℕ) → (q < p) ⊎ (p ≤ q)

@@ -68,25 +68,30 @@ pub skip-either : (k : NetPermits) (ps : List Part) (from : ℕ) (met : Option T
 skip-either k ps from met None skip h p q = skip-none k ps from skip.instances q
 skip-either k ps from met (Some b) skip h p q = subst (λ (c : BlockValue). IsSkip k ps from c.instances) (sym p) h.skip
 
-module _ (w : Tables) (a : ℕ) (x : Tree) (ps : List Part) (from : ℕ) (met : Option Taken) (taken : IfSome met IsTaken) (placed : ArePlaced w a x met) where
+module _ (w : Tables) (a : ℕ) (x : Tree) (met : Option Taken) (taken : IfSome met IsTaken) (placed : ArePlaced w a x met) where
   at_some_met : (Q : Taken → Type 0) (t : Taken) → met ≡ Some t → IfSome met Q → Q t
   at_some_met Q t e h = subst (λ (o : Option Taken). IfSome o Q) e h
 
   -- each event with the label is at the instances of the one that was met
-  all_at : (c : List ℕ) → IsHolding (permits_of w) ps from met c → (y u : Tree) (p : ℕ) (e : TermEvent) → child (permits_of w) x p ≡ Some y → e.label ≡ a → IsAfter (permits_of w) y e u → IsAt c e
-  all_at c h y u p e g l t = λ n i. h.same n ∙ (own.same n ∙ (ap (λ d. has d n) (sym same_places) ∙ i))
+  pub same-instances : (m : Taken) → met ≡ Some m → (y u : Tree) (p : ℕ) (e : TermEvent) → child (permits_of w) x p ≡ Some y → e.label ≡ a → IsAfter (permits_of w) y e u
+      → (n : ℕ) → has (instances_of e).instances n ≡ has m.at.instances n
+  same-instances m is y u p e g l t n = ap (λ d. has d n) same_places ∙ sym (own.same n)
     where
-      own : IsTaken h.event
-      own = at_some_met IsTaken h.event h.is_met taken
+      own : IsTaken m
+      own = at_some_met IsTaken m is taken
 
-      its : IsMetAt placed.places a h.event
-      its = at_some_met (IsMetAt placed.places a) h.event h.is_met placed.met_at
+      its : IsMetAt placed.places a m
+      its = at_some_met (IsMetAt placed.places a) m is placed.met_at
 
       mine : IsPlaced placed.places e
       mine = child-taken placed.places w placed.nets y u e (child-placed placed.places w placed.nets x p y placed.term g) t
 
-      same_places : (instances_of e).instances ≡ (instances_of (event_of h.event.event)).instances
+      same_places : (instances_of e).instances ≡ (instances_of (event_of m.event)).instances
       same_places = sym mine ∙ (ap placed.places (l ∙ sym its.1) ∙ its.0)
+
+module _ (w : Tables) (a : ℕ) (x : Tree) (ps : List Part) (from : ℕ) (met : Option Taken) (taken : IfSome met IsTaken) (placed : ArePlaced w a x met) where
+  all_at : (c : List ℕ) → IsHolding (permits_of w) ps from met c → (y u : Tree) (p : ℕ) (e : TermEvent) → child (permits_of w) x p ≡ Some y → e.label ≡ a → IsAfter (permits_of w) y e u → IsAt c e
+  all_at c h y u p e g l t = λ n i. h.same n ∙ (sym (same-instances w a x met taken placed h.event h.is_met y u p e g l t n) ∙ i)
 
   pub held-row : (c : List ℕ) → x ≡ Join seq (trees (begun ps)) → AreTurns ps → IsHolding (permits_of w) ps from met c → IsNext w a x from None
   held-row c e turns h = λ p l y g f b u t. ap (λ v. put (permits_of w) f v p u) e ∙ row_put_held (permits_of w) f ps p from u turns l (h.skip.all f (all_at c h y u p f g b t))

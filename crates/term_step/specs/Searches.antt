@@ -3,10 +3,7 @@
 use Rattle.std.specs.Prelude.{ℕ, zero, suc, ◌<◌, ◌≤◌, Bool, true, false, List, [], ◌∷◌, ◌++◌, ◌≡◌, ◌⊎◌, Option, Some, None, length, min}
 use Rattle.msc_base.specs.Stored.{most_stored}
 use Rattle.hmsc_graph.specs.Nets.{size_of}
-use Rattle.chart_term.specs.Equality.{same_tree}
 use Rattle.chart_term.specs.NormalForms.{NetPermits}
-use Rattle.chart_term.specs.Order.{tree_cmp}
-use Rattle.chart_term.specs.Properties.{Each}
 use Rattle.chart_term.specs.Tables.{Tables, net_of}
 use Rattle.chart_term.specs.TermPatterns.{instances_of}
 use Rattle.chart_term.specs.Terms.{TermEvent, has, Tree, Nil, Event, Join, Choice, Tied, Loop, Walk, items, Part, Gap, Turn, parts}
@@ -14,7 +11,6 @@ use Rattle.chart_term.specs.Views.{event_of}
 use Rattle.term_step.specs.Children.{child, put}
 use Rattle.term_laws.specs.Listing.{set_weight}
 use Rattle.msc_base.specs.Lists.{IsAmong}
-use Rattle.term_laws.specs.Normality.{AreDifferent}
 use Rattle.term_laws.specs.Permission.{permits_of}
 use Rattle.term_permission.specs.Ready.{IsReady}
 use Rattle.term_permission.specs.RowRests.{RowRest, turn_before, gap_before}

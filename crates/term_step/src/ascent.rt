@@ -19,7 +19,7 @@ use self::loops::put_in_loop;
 use self::rows::{put_in_par, put_in_row};
 use self::ties::put_below_tie;
 use self::walks::put_on_walk;
-use crate::descent::node_at;
+use crate::nodes::node_at;
 use bit_sets::Block;
 use chart_term::{Event, Look, Term};
 use msc_base::NoMemory;

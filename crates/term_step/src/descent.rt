@@ -18,6 +18,7 @@ ghost use Rattle.term_step.specs.Searches.{IsNext, IsTaken, child_count, is_gap}
 ghost use Rattle.term_step.specs.Skips.{ArePlaced, IsBelowTie, IsChildOr, HoldsOne, IsHolding, IsNextPart};
 
 use crate::ascent::Taken;
+use crate::nodes::next_node;
 use bit_sets::Block;
 use chart_term::{Event, Look, PartList, RowPart, Term};
 use msc_base::NoMemory;
@@ -98,7 +99,7 @@ pub(crate) fn next_child(
                 to,
                 own,
             };
-            next_node(alloc, nets, label, way, from)
+            next_node(alloc, nets, label, way, from, met, one_place)
         }
     }
 }
@@ -360,63 +361,6 @@ fn turn_in(
             Ok(left)
         }
     }
-}
-
-/// The term of the next node of a net from the index on, where the walk may pass it.
-#[tactic(auto, using(crate::proofs::Passes::passes, crate::proofs::Descending::descending))]
-fn next_node(
-    alloc: Global,
-    nets: &Nets,
-    label: u32,
-    way: WalkParts<'_>,
-    from: usize,
-) -> Result<Option<Step>, NoMemory>
-    requires tables { AreReadyTables nets.now.tables }
-    requires net { way.net < net_count nets.now.tables }
-    requires own { IsSet way.own.now.instances }
-    ensures { IfOk result (λ next. IsNext nets.now.tables label (WalkTree way.entry.net (spot_of way.entry.from) (goal_of way.entry.to) way.entry.own.now.instances) from next) }
-{
-    let size = nets.net(way.net).size() as usize;
-    for index in from..size {
-        if let Some(inner) = node_of(alloc, nets, label, way, index)? {
-            return Ok(Some(Step { index, inner }));
-        }
-    }
-    Ok(None)
-}
-
-/// What the walk's block leaves of a node's term, where this may have the label.
-#[tactic(auto, using(crate::proofs::Passes::passes, crate::proofs::Descending::descending))]
-fn node_of(
-    alloc: Global,
-    nets: &Nets,
-    label: u32,
-    way: WalkParts<'_>,
-    index: usize,
-) -> Result<Option<Term>, NoMemory>
-    requires tables { AreReadyTables nets.now.tables }
-    requires net { way.net < net_count nets.now.tables }
-    requires own { IsSet way.own.now.instances }
-    requires index { index < size_of (net_of nets.now.tables way.net) }
-    ensures { IfOk result (λ node. IsChildOr label (kept_of nets.now.tables way.entry.net index way.entry.own.now.instances) node) }
-{
-    let term = nets.node(way.net, node_at(nets, way.net, index));
-    if !term.may_have(label) {
-        return Ok(None);
-    }
-    let own = widened(alloc, way.own, &Block::empty(alloc))?;
-    let left = permit(alloc, nets, term, &own)?;
-    Ok(left)
-}
-
-/// The number of the net's node of that index.
-pub(crate) fn node_at(nets: &Nets, net: u32, index: usize) -> u32
-    requires net { net < net_count nets.now.tables }
-    requires index { index < size_of (net_of nets.now.tables net) }
-    ensures { result ≡ index }
-{
-    let size = nets.net(net).size() as usize;
-    index.min(size) as u32
 }
 
 /// From how many places of the term an event may be taken.

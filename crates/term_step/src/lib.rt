@@ -11,6 +11,7 @@ mod coded;
 mod descent;
 mod found;
 mod gathered;
+mod nodes;
 mod search;
 
 pub use all_after::after_each;

@@ -1,5 +1,5 @@
 -- In a chart that breaks no rule on what is created, no event creates the instance at which it stands.
-use Rattle.std.proofs.Common.{◌≡◌, ◌||◌, ◌&&◌, Bool, true, false, List, [], ◌∷◌, ℕ, refl}
+use Rattle.std.proofs.Common.{◌≡◌, inl, ◌||◌, ◌&&◌, Bool, true, false, List, [], ◌∷◌, ℕ, refl}
 use Rattle.std.specs.List.{list_any}
 use Rattle.std.specs.Str.{bytes_eq}
 use Rattle.chart_text.specs.Gathering.{place_if}
@@ -8,12 +8,12 @@ use Rattle.chart_text.specs.WellFormed.{Each}
 use Rattle.creation_rules.specs.Creating.{ChartCreatesTwice, barred_creations, barred_event, barred_events, barred_item, barred_passage, chart_barred, decomposed, event_creates, is_barred, is_creator, passage_creates}
 use Rattle.creation_rules.specs.Placing.{is_creation}
 use Rattle.list_facts.proofs.Joining.{left_nil, right_nil}
+use Rattle.msc_base.specs.Lists.{IsAmong}
 use Rattle.msc_base.specs.declared.place.Place.{Place}
 use Rattle.msc_tree.specs.Charts.{Chart}
 use Rattle.msc_tree.specs.Directions.{far_name}
 use Rattle.msc_tree.specs.Statements.{Form, Single, Coregion, Condition, Inline, Refer, Stop}
 use Rattle.msc_tree.specs.declared.event.RawEvent.{RawEvent}
-use Rattle.woven_laws.proofs.BuiltPieces.{none_among}
 
 -- where the event creates, another instance
 abbrev pub IsApartEvent : Side → RawEvent → Type 0
@@ -37,6 +37,10 @@ IsApart (a_head decl) = Unit {0}
 IsApart (a_statement depth scope x) = Unit {0}
 IsApart (an_item s place f) = IsApartForm s.side f
 IsApart (an_operand s x) = Unit {0}
+
+none_among : {A : Type 0} (xs : List A) → ((x : A) → IsAmong xs x → ⊥) → xs ≡ []
+none_among [] none = refl
+none_among (x ∷ xs) none = absurd (none x (inl refl))
 
 third_false : (a b c : Bool) → (a || (b || c)) ≡ false → c ≡ false
 third_false false false false h = refl

@@ -14,7 +14,6 @@ mod GraphSizes
 mod WovenNames
 mod DrawnNames
 mod Untied
-mod BuiltPieces
 mod Declaring
 mod Creations
 mod NamedPieces

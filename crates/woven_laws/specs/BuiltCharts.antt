@@ -1,10 +1,9 @@
--- What is known of the charts whose forms are built, that name no other instances and create none that may not be, and of what any basic
--- chart is woven to.
+-- What is known of the charts that are well formed, name no other instances and create none that may not be, and of what any basic chart is
+-- woven to.
 use Rattle.std.specs.Prelude.{◌≡◌, ◌≤◌, ◌+◌, ℕ, List, [], ◌∷◌, map}
 use Rattle.chart_extents.specs.OwnExtents.{own_extent}
 use Rattle.chart_forms.specs.BodyEvents.{events_within}
 use Rattle.chart_forms.specs.BuiltBodies.{IsBuiltBody}
-use Rattle.chart_forms.specs.NotBuilt.{IsBuilt}
 use Rattle.chart_forms.specs.TableSizes.{graph_size, level_size}
 use Rattle.chart_links.specs.Links.{Link, Refers, Refines, chart_links, depth_of, linked}
 use Rattle.chart_text.specs.WellFormed.{IsWellFormed}
@@ -26,10 +25,10 @@ use Rattle.msc_tree.specs.Statements.{Statement, statements}
 use Rattle.woven_laws.specs.GraphNames.{graph_names}
 use Rattle.woven_laws.specs.JoinSums.{level_joins}
 
--- of a chart whose forms are built: what its statements, where they are well formed, name no others and create none that may not be, are
--- woven to is built at its instances
+-- what the statements of a chart, where they are well formed, name no others and create none that may not be, are woven to is built at its
+-- instances
 pub record BuiltChartsAreKnown : Type 0 where
-  pub built : (c : Chart) (held : List Statement) (b : Body) → c.content ≡ Basic held → IsWellFormed c → IsBuilt c → ((p : Place) → ChartNamesOther c p → ⊥) → ((p : Place) → ChartCreatesTwice c p → ⊥)
+  pub built : (c : Chart) (held : List Statement) (b : Body) → c.content ≡ Basic held → IsWellFormed c → ((p : Place) → ChartNamesOther c p → ⊥) → ((p : Place) → ChartCreatesTwice c p → ⊥)
       → IsWovenLevel (instances c) (statements_pieces (instances c) 0 (statements held)) b → IsBuiltBody (instances c) b
 
 -- a link names the chart, below its own

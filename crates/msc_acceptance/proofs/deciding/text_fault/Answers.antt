@@ -7,16 +7,16 @@ use Rattle.msc_rules.specs.declared.rule.Rule.{Rule}
 use Rattle.msc_tree.specs.Charts.{Chart}
 use Rattle.msc_tree.specs.Views.{chart_view}
 use Rattle.msc_acceptance.specs.Acceptance.{BreaksOf}
-use Rattle.msc_acceptance.specs.Deciding.{HaveExtents, IsFirstOf, forms, limits, link_groups, names, parts, text_groups}
+use Rattle.msc_acceptance.specs.Deciding.{HaveExtents, IsFirstOf, limits, link_groups, names, parts, text_groups}
 use Rattle.msc_acceptance.specs.SizedCharts.{OfSizes}
 use Rattle.msc_acceptance.proofs.AcceptLaws.{first_link, first_of_text, none_of}
 use Rattle.msc_acceptance.proofs.AcceptedLaws.{kept_apart}
 use Rattle.msc_acceptance.proofs.deciding.text_fault.Goals as goal
 
-last_group : (charts : List Chart) (r : Result (Option (Broken Rule)) NoMemory) → IsBest number_of (BreaksOf charts) forms None → IsBest number_of (BreaksOf charts) limits None → IsBest number_of (BreaksOf charts) names None
+last_group : (charts : List Chart) (r : Result (Option (Broken Rule)) NoMemory) → IsBest number_of (BreaksOf charts) limits None → IsBest number_of (BreaksOf charts) names None
     → IsFirstOf charts link_groups None → IfOk r (IsBest number_of (BreaksOf charts) parts) → IfOk r (IsFirstOf charts text_groups)
-last_group charts (Ok o) a b c d h = first_of_text charts o a b c d h
-last_group charts (Err e) a b c d h = tt
+last_group charts (Ok o) a b c h = first_of_text charts o a b c h
+last_group charts (Err e) a b c h = tt
 
 given : (P : Type 0) (r : Result (Option (Broken Rule)) NoMemory) → P → IfOk r (λ x. x ≡ None → P)
 given P (Ok x) p = λ none. p
@@ -35,24 +35,22 @@ link_fault-requires c =
       };
     }
 
-pub returns-in-Some-4-clause-first : goal.returns-in-Some-4-clause-first
-returns-in-Some-4-clause-first c =
+pub returns-in-Some-3-clause-first : goal.returns-in-Some-3-clause-first
+returns-in-Some-3-clause-first c =
     let charts = map chart_view c.args.charts.now in
-    let e : c.form_fault.result ≡ None = search rules in
     let e2 : c.in_ok-fault.field-0 ≡ None = search rules in
     let e3 : c.in_ok-fault-2.field-0 ≡ None = search rules in
-    let e4 : c.in_ok-fault-3.field-0 ≡ Some c.in-Some-4.fault = search rules in
-    first_link charts c.in-Some-4.fault (none_of charts forms c.form_fault.result e (c.form_fault.ensures charts c.requires.reading.places.not_built)) (none_of charts limits c.in_ok-fault.field-0 e2 c.in_ok-fault.ensures)
+    let e4 : c.in_ok-fault-3.field-0 ≡ Some c.in-Some-3.fault = search rules in
+    first_link charts c.in-Some-3.fault (none_of charts limits c.in_ok-fault.field-0 e2 c.in_ok-fault.ensures)
     (none_of charts names c.in_ok-fault-2.field-0 e3 c.in_ok-fault-2.ensures) (subst (λ (o : Option (Broken Rule)). IsFirstOf charts link_groups o) e4 c.in_ok-fault-3.ensures.first)
 
 pub returns-clause-first : goal.returns-clause-first
 returns-clause-first c =
     let charts = map chart_view c.args.charts.now in
-    let e : c.form_fault.result ≡ None = search rules in
     let e2 : c.in_ok-fault.field-0 ≡ None = search rules in
     let e3 : c.in_ok-fault-2.field-0 ≡ None = search rules in
     let e4 : c.in_ok-fault-3.field-0 ≡ None = search rules in
-    last_group charts c.part_fault.result (none_of charts forms c.form_fault.result e (c.form_fault.ensures charts c.requires.reading.places.not_built)) (none_of charts limits c.in_ok-fault.field-0 e2 c.in_ok-fault.ensures)
+    last_group charts c.part_fault.result (none_of charts limits c.in_ok-fault.field-0 e2 c.in_ok-fault.ensures)
     (none_of charts names c.in_ok-fault-2.field-0 e3 c.in_ok-fault-2.ensures) (subst (λ (o : Option (Broken Rule)). IsFirstOf charts link_groups o) e4 c.in_ok-fault-3.ensures.first) c.part_fault.ensures
 
 pub returns-clause-extents : goal.returns-clause-extents

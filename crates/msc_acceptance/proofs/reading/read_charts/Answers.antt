@@ -25,7 +25,7 @@ loop-chart-preserved c =
       tied = one_more (λ (x : Chart). is_tied_text (chart_text x)) c.args.charts.now at.chart-index c.chart-item.result at.tied _ _ text.tied c.loop-chart-test.true c.chart-item.is (search rules) own.tied at.invariant.tied;
       refined = one_more is_refined_chart c.args.charts.now at.chart-index c.chart-item.result at.refined _ _ text.refined c.loop-chart-test.true c.chart-item.is (search rules) own.refined at.invariant.refined;
       places = texts_more c.args.charts.now at.chart-index c.chart-item.result at.places text.places c.earlier_places-places.result c.loop-chart-test.true c.chart-item.is own.places
-          (record { not_built = e.not_built; high_bound = e.high_bound; twice = e.twice; undeclared = e.undeclared; creation = e.creation; child = e.child; behind = e.behind; coregion = e.coregion }) at.invariant.places;
+          (record { high_bound = e.high_bound; twice = e.twice; undeclared = e.undeclared; creation = e.creation; child = e.child; behind = e.behind; coregion = e.coregion }) at.invariant.places;
     }
 
 pub returns-clause-places : goal.returns-clause-places

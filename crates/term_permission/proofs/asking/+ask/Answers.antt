@@ -1,5 +1,5 @@
 use Rattle.std.proofs.Common.{drop, take, length, ◌≡◌, ◌<◌, ◌↔◌, IsTrue, ◌-◌, ◌∙◌, ◌+◌, ◌++◌, sym, ap, subst, arith, true, false, Option, Some, None, IfOk, ℕ, List, ◌≤◌, refl, slice_get}
-use Rattle.chart_term.specs.NormalForms.{allowed, begun, only, cut, has_gap, walk_cut, some_kept}
+use Rattle.chart_term.specs.NormalForms.{allowed, begun, only, cut, walk_cut, some_kept}
 use Rattle.chart_term.specs.Rows.{part_of, parts_of}
 use Rattle.chart_term.specs.Terms.{Tree, Choice, trees, Part, Turn, ◌∪◌}
 use Rattle.chart_term.specs.Tables.{net_of, node_of}

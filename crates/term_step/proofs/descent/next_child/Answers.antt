@@ -10,6 +10,7 @@ use Rattle.term_step.specs.Skips.{ArePlaced}
 use Rattle.chart_term.specs.NormalForms.{begun}
 use Rattle.term_permission.specs.Ready.{IsReady}
 use Rattle.term_permission.proofs.PermitLoops.{ready-loop}
+use Rattle.term_permission.proofs.PermitWalks.{ready-walk}
 use Rattle.msc_base.specs.Patterns.{seq}
 use Rattle.term_step.proofs.descent.next_child.Goals as goal
 
@@ -44,6 +45,12 @@ pub returns-in-Loop : goal.returns-in-Loop
 returns-in-Loop c =
     ok-as (λ (s : Option Step). IsNext c.args.nets.now.tables c.args.label (Loop c.in-Loop.body.now c.in-Loop.lower c.in-Loop.upper (row_of c.in-Loop.row.now)) c.args.from s) (λ (s : Option Step). IsNext c.args.nets.now.tables c.args.label c.args.term.now c.args.from s) c.next_turn.result
     (λ s h. next-as c.args.nets.now.tables c.args.label c.args.term.now (Loop c.in-Loop.body.now c.in-Loop.lower c.in-Loop.upper (row_of c.in-Loop.row.now)) c.args.from s c.in-Loop.ensures h) c.next_turn.ensures
+
+pub next_node-requires-clause-from : goal.next_node-requires-clause-from
+next_node-requires-clause-from c = (ready-walk c.args.nets.now.tables c.args.term.now c.in-Walk.net c.in-Walk.begin c.in-Walk.to c.in-Walk.own.now.instances c.requires.tables c.in-Walk.ensures c.requires.term).from
+
+pub next_node-requires-clause-placed : goal.next_node-requires-clause-placed
+next_node-requires-clause-placed c = λ one. subst (λ (x : Tree). ArePlaced c.args.nets.now.tables c.args.label x c.args.met.now) c.in-Walk.ensures (c.requires.placed one)
 
 pub returns-in-Walk : goal.returns-in-Walk
 returns-in-Walk c =
