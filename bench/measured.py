@@ -55,7 +55,7 @@ def asked(description, known):
 
 
 def judged(program, told, document, words, log):
-    """Runs the program of these words three times over a document and a log, and tells the least time and the peak memory."""
+    """Runs the program of these words three times over a document and a log, and tells the last line, the least time and the peak memory."""
     # here alone, as in asked
     import tempfile
     with tempfile.TemporaryDirectory() as folder:
@@ -64,7 +64,8 @@ def judged(program, told, document, words, log):
                 file.write(text)
         runs = [run([program, *words], folder) for _ in range(3)]
     best = min(runs, key=lambda one: one.processor)
-    print(f"{told}, {len(document)} bytes: {best.printed.decode().strip()}, {best.processor:.2f} s of a processor, {best.peak:.0f} MiB", flush=True)
+    last = best.printed.decode().strip().split("\n")[-1]
+    print(f"{told}, {len(document)} bytes: {last}, {best.processor:.2f} s of a processor, {best.peak:.0f} MiB", flush=True)
 
 
 def all_asked(description, works):

@@ -2,11 +2,12 @@
 _mscjudge() {
     local word=${COMP_WORDS[COMP_CWORD]} words=""
     if [ "$COMP_CWORD" -eq 1 ]; then
-        COMPREPLY=($(compgen -W "judge check list print sample" -- "$word"))
+        COMPREPLY=($(compgen -W "judge next check list print sample" -- "$word"))
         return
     fi
     case ${COMP_WORDS[1]} in
         judge) [[ $word == -* ]] && words="--budget --json --log-json" ;;
+        next) [[ $word == -* ]] && words="--budget" ;;
         check) [[ $word == -* ]] && words="--json" ;;
         list) [[ $word == -* ]] && words="--json" ;;
         print) [[ $word == -* ]] && words="" ;;

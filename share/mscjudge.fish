@@ -1,5 +1,6 @@
 # made by tools/words.py from share/words.json
 complete -c mscjudge -f -n __fish_use_subcommand -a judge -d 'reads the files DOC and LOG, and judges the log by the chart CHART of the document'
+complete -c mscjudge -f -n __fish_use_subcommand -a next -d 'reads the files DOC and LOG, a log in the text form, and lists each event that may come next in it by the chart CHART, as a line of a log; if no run of the chart begins with the log, it answers as judge does'
 complete -c mscjudge -f -n __fish_use_subcommand -a check -d 'reads the file DOC, and says how many charts it has, or which rule it breaks first'
 complete -c mscjudge -f -n __fish_use_subcommand -a list -d 'lists the charts of the document, each with its kind and the number of its instances, or the instances of the chart CHART in the order of the text'
 complete -c mscjudge -f -n __fish_use_subcommand -a print -d 'prints the document in its canonical form; it looks at no rule of charts'
@@ -7,5 +8,6 @@ complete -c mscjudge -f -n __fish_use_subcommand -a sample -d 'judges a log of T
 complete -c mscjudge -n '__fish_seen_subcommand_from judge' -l budget -x -d 'how much may be left of the chart at once, 1 to 4000000; 1000000 without the option'
 complete -c mscjudge -n '__fish_seen_subcommand_from judge' -l json -d 'prints the answer as JSON'
 complete -c mscjudge -n '__fish_seen_subcommand_from judge' -l log-json -d 'the log has one JSON object a line'
+complete -c mscjudge -n '__fish_seen_subcommand_from next' -l budget -x -d 'how much may be left of the chart at once, 1 to 4000000; 1000000 without the option'
 complete -c mscjudge -n '__fish_seen_subcommand_from check' -l json -d 'prints the answer as JSON'
 complete -c mscjudge -n '__fish_seen_subcommand_from list' -l json -d 'prints the answer as JSON'

@@ -12,7 +12,9 @@ the documents some instances are decomposed, one or both ends of a message, by c
 high-level charts, whose graphs have loops back, frames, connectors and conditions, name other graphs, and are named by basic charts. More
 than a third of the documents are faulty, at one place or two. Logs are runs of their charts, beginnings of runs, what has happened on a walk
 under way, and runs damaged at a random place, in text or JSON, and some are judged within the least budget that lets them pass, and within
-one less. What is a run, or the beginning of one, is also known here without the model, so a model that errs there is found.
+one less. What is a run, or the beginning of one, is also known here without the model, so a model that errs there is found. What may come next is
+asked behind each log in text, within the same budgets, and behind the beginning of a run, whose next event has to be told; the log has to go on
+with an event that is told.
 
 Each difference is printed with what it takes to see it again: document K of a seed is made alone by `--first K --documents 1`. At the
 end stands how often each answer came. It ends with status 1 where there is a difference.
@@ -110,10 +112,15 @@ def verdict_of(text):
     return re.sub(r" at .*?: |[0-9]+", " ", text.split("\n")[0]).strip()
 
 
+def run_of(rng, chart):
+    """The events of a run, or of the beginning of one, and whether it is whole."""
+    whole = chart_parts.has_runs(chart) and rng.random() < (0.7 if chart.graph else 0.95)
+    return chart_parts.run_of(rng, chart) if whole else chart_parts.beginning_of(rng, chart), whole
+
+
 def log_of(rng, chart):
     """A log, whether it is in JSON, and the statuses that it may have, as the chart was made: those of a run, or of a beginning."""
-    whole = chart_parts.has_runs(chart) and rng.random() < (0.7 if chart.graph else 0.95)
-    run = chart_parts.run_of(rng, chart) if whole else chart_parts.beginning_of(rng, chart)
+    run, whole = run_of(rng, chart)
     events = [*chart.events(), *run]
     damage = rng.random() if events else 1
     if damage < 0.15:
@@ -165,10 +172,47 @@ def compare_log(rng, both, chart):
     both.told[verdict_of(plain[1])] += 1
     if statuses and chart.fault is None and answer[0] not in statuses:
         both.differ(words, (f"made for one of the statuses {statuses}, and the model says", plain))
+    if not is_json:
+        compare_next(both, chart, MOST)
     if rng.random() < 0.2 and answer[0] != 5:
         budget = least_budget(both.model, words)
         for within in {budget, max(1, budget - 1)}:
             both.told[verdict_of(both.compare(*words, "--budget", str(within))[1])] += 1
+            if not is_json:
+                compare_next(both, chart, within)
+
+
+def compare_next(both, chart, within):
+    """Compares what may come next in the log, and gives the answer."""
+    answer = both.compare("next", "d", chart.name, "l", "--budget", str(within))
+    both.told[verdict_of((answer[1].splitlines() or [""])[-1])] += 1
+    return answer
+
+
+def compare_goings_on(rng, both, chart):
+    """Compares what may come next behind the beginning of a run: the run's next event has to be told, and the log goes on with what is told."""
+    run, whole = run_of(rng, chart)
+    taken = rng.randint(0, len(run))
+    version = ["log 2;\n"] if any(event.kind == "create" for event in run) else []
+    lines = [event.line("text", rng) + "\n" for event in run[:taken]]
+    both.hold(l="".join(version + lines))
+    status, text = compare_next(both, chart, MOST)
+    goes_on, told = [line_of(event) for event in run[taken:taken + 1]], text.splitlines()
+    known = chart.fault is None and status != TOO_LARGE
+    if known and (status != 0 or not set(goes_on) <= set(told) or (whole and not goes_on and not told[-1].endswith("complete"))):
+        both.differ(["next", chart.name], (f"made to go on with {goes_on}, and the model says", (status, text)))
+    if status == 0 and told[:-1]:
+        chosen = rng.choice(told[:-1])
+        both.hold(l="".join(["log 2;\n"] + lines + [chosen + "\n"]))
+        answer = both.compare("judge", "d", chart.name, "l", "--budget", str(MOST))
+        if answer[0] not in (CONFORMS, EARLY, TOO_LARGE):
+            both.differ(["judge", chart.name], (f"told to go on with {chosen!r}, and the model says", answer))
+
+
+def line_of(event):
+    """The line by which an event is told that may come next."""
+    words = re.sub("^set ", "starttimer ", re.sub("^reset ", "stoptimer ", event.words(False)))
+    return f"{event.at}: {words};"
 
 
 def compare_document(rng, both):
@@ -186,6 +230,7 @@ def compare_document(rng, both):
         both.compare("list", "d", chart.name, *rng.choice([[], ["--json"]]))
         for _ in range(3):
             compare_log(rng, both, chart)
+            compare_goings_on(rng, both, chart)
     return "accepted"
 
 

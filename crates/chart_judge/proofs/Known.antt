@@ -26,12 +26,13 @@ use Rattle.verdict_meaning.proofs.Labelled.{begun_there}
 use Rattle.verdict_meaning.specs.Budgets.{BudgetSuffices}
 use Rattle.chart_judge.specs.ChartBudgets.{ChartBudgetsSuffice}
 use Rattle.chart_judge.specs.ChartsTold.{ChartsHaveRuns, ChartsHaveTerms, VerdictsAreTold}
+use Rattle.chart_judge.specs.NextLabels.{BeginningsAreTold}
 use Rattle.chart_judge.proofs.NestedTables.{sound_graphs}
 use Rattle.chart_judge.proofs.WholeTables.{all_quiet, whole_to}
 use Rattle.chart_judge.proofs.FewTables.{few_to}
 use Rattle.chart_judge.proofs.TableEntries.{name_has}
 use Rattle.chart_judge.proofs.TableRoom.{are_placed, has_room}
-use Rattle.chart_judge.proofs.Verdicts.{IsKnown, begins_empty, to_residual, told}
+use Rattle.chart_judge.proofs.Verdicts.{IsKnown, begin_term, begins_empty, to_residual, told}
 
 one_term : (table : Table) (name : List ℕ) (v w : NetsValue) (x y : Tree) → IsTermOf table name v x → IsTermOf table name w y → (v ≡ w) × (x ≡ y)
 one_term table name v w x y a b = (a.nets ∙ sym b.nets, a.term ∙ sym b.term)
@@ -100,6 +101,11 @@ known terms table name chart v x is accepted made = record {
 
 pub verdicts_told : ChartsHaveTerms → VerdictsTellRuns → VerdictsAreTold
 verdicts_told terms laws table name chart v x budget events verdict is accepted made w = told table name v x (known terms table name chart v x is accepted made) laws budget events verdict w
+
+-- ---- beginnings
+
+pub beginnings_told : ChartsHaveTerms → BeginningsAreTold
+beginnings_told terms table name chart v x is accepted made labels = begin_term table name v x (known terms table name chart v x is accepted made) labels
 
 -- ---- the budget that no log passes
 

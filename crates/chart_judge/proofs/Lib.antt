@@ -15,3 +15,4 @@ mod Few
 mod Largest
 mod Takings
 mod LogJudging
+mod NextLabels

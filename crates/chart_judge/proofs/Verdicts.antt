@@ -11,7 +11,7 @@ use Rattle.chart_term.specs.Terms.{Tree}
 use Rattle.term_tables.specs.NetValues.{NetsValue}
 use Rattle.term_laws.specs.Residuals.{res_none}
 use Rattle.trace_judge.specs.Laws.{VerdictsTellRuns}
-use Rattle.trace_judge.specs.Logs.{WeighsWithin, WeighsMore}
+use Rattle.trace_judge.specs.Logs.{BeginsTermRun, WeighsWithin, WeighsMore}
 use Rattle.trace_judge.specs.Sets.{IsSoundFor}
 use Rattle.trace_judge.specs.Verdicts as residual
 use Rattle.trace_judge.specs.Verdicts.{LeavesSome, LeavesEnding}
@@ -30,7 +30,7 @@ pub record IsKnown (table : Table) (name : List ℕ) (v : NetsValue) (x : Tree) 
   pub sound : IsSoundFor v x
 
 -- one account after the other
-through : {A B C : Type 0} → Both A B → Both B C → Both A C
+pub through : {A B C : Type 0} → Both A B → Both B C → Both A C
 through f g = record { to = λ a. g.to (f.to a); from = λ c. f.from (g.from c) }
 
 back : {A B : Type 0} → Both A B → Both B A
@@ -44,6 +44,9 @@ module _ (table : Table) (name : List ℕ) (v : NetsValue) (x : Tree) (known : I
 
   begin : (labels : List Label) → Both (LeavesSome v x labels) (Begins table name labels)
   begin labels = through (left_exact v x known.sound labels) (begins v known.names x known.means.once (Begun table name) known.means.all_ones labels)
+
+  pub begin_term : (labels : List Label) → Both (BeginsTermRun v x labels) (Begins table name labels)
+  begin_term labels = through (back (left_exact v x known.sound labels)) (begin labels)
 
   -- no label begins a run
   pub begins_empty : Begins table name []

@@ -23,7 +23,7 @@ use term_sets::Pool;
 /// Judges a log, which it is fed in pieces, by a chart.
 #[derive(Drop)]
 pub struct ChartJudge {
-    judge: Judge<Pool>,
+    pub(crate) judge: Judge<Pool>,
 }
 
 impl Model for ChartJudge {

@@ -3,6 +3,7 @@
 ghost use Rattle.chart_judge.specs.ChartBudgets.{ChartBudgetsSuffice};
 ghost use Rattle.chart_judge.specs.ChartsTold.{ChartsHaveRuns, ChartsHaveTerms, VerdictsAreTold};
 ghost use Rattle.chart_judge.specs.LargestWeights.{LargestIsTold};
+ghost use Rattle.chart_judge.specs.NextLabels.{BeginningsAreTold};
 
 use expanded_terms::nets_are_whole;
 use gate_ends::ends_are_found;
@@ -33,6 +34,13 @@ pub fn verdicts_are_told()
 {
     charts_have_terms();
     verdicts_tell_runs();
+}
+
+/// A run of a chart's term begins with labels exactly where a run of the chart does.
+pub fn beginnings_are_told()
+    ensures { BeginningsAreTold }
+{
+    charts_have_terms();
 }
 
 /// Where the term of a chart of an accepted table is unambiguous, no log of n events is too large for a budget of 2·(n+1) times its

@@ -7,7 +7,9 @@ ghost use Rattle.chart_term.specs.Terms.{Tree};
 ghost use Rattle.event_log.specs.declared.event.LogForm.{LogForm};
 ghost use Rattle.trace_judge.specs.Sets.{IsSoundFor};
 ghost use Rattle.chart_judge.specs.Judged.{IsJudged, IsJudgeFault, IsJudgeAnswer, IsLargestOf, fault_in};
+ghost use Rattle.chart_judge.specs.Ends.{HasEnded};
 ghost use Rattle.chart_judge.specs.States.{Fed};
+ghost use Rattle.trace_judge.specs.Tracks.{IfHeld};
 
 use crate::JudgeFault;
 use crate::numbers::TableNumbers;
@@ -29,6 +31,14 @@ pub struct Judge<S: Store> {
     nets: Rc<Nets>,
     track: Track<S>,
     fault: Option<JudgeFault>,
+}
+
+/// What the end of a log without a fault leaves: the tables, and the track that has taken all events of the log.
+#[derive(Drop)]
+pub(crate) struct Ended<S: Store> {
+    pub(crate) alloc: Global,
+    pub(crate) nets: Rc<Nets>,
+    pub(crate) track: Track<S>,
 }
 
 impl<S: Store> Model for Judge<S> {
@@ -99,11 +109,12 @@ impl<S: Store + Drop> Judge<S> {
         }
     }
 
-    /// Ends the log, and gives the verdict on its events. It fails exactly where the whole log has a fault, or for want of memory;
-    /// after a fault of `feed` with that.
-    pub fn finish(self) -> Result<Verdict, JudgeFault>
-        ensures verdict { (v : NetsValue) (x : Tree) (form : LogForm) (budget : ℕ) (bytes : List ℕ) → Fed S.holds v x form budget bytes self
-            → IfOk result (IsJudged v x form budget bytes) }
+    /// Ends the log, and gives the track that has taken its events. It fails exactly where the whole log has a fault, or for want of
+    /// memory; after a fault of `feed` with that.
+    pub(crate) fn end(self) -> Result<Ended<S>, JudgeFault>
+        ensures serves { IfOk result (λ ended. IfHeld (λ set. S.serves set ended.nets.value) ended.track) }
+        ensures taken { (v : NetsValue) (x : Tree) (form : LogForm) (budget : ℕ) (bytes : List ℕ) → Fed S.holds v x form budget bytes self
+            → IfOk result (λ ended. HasEnded S.holds v x form budget bytes ended.nets.value ended.track) }
         ensures fault { (v : NetsValue) (x : Tree) (form : LogForm) (budget : ℕ) (bytes : List ℕ) → Fed S.holds v x form budget bytes self
             → IfErr result (IsJudgeFault form false bytes) }
         ensures again { IfSome self.fault (λ fault. result ≡ Err fault) }
@@ -120,10 +131,22 @@ impl<S: Store + Drop> Judge<S> {
             return Err(fault);
         }
         match finish_parts(&mut reader, &nets, &mut track) {
-            Ok(()) => {}
-            Err(fault) => return Err(fault),
+            Ok(()) => Ok(Ended { alloc, nets, track }),
+            Err(fault) => Err(fault),
         }
-        let verdict = track.verdict(alloc, &nets)?;
+    }
+
+    /// Ends the log, and gives the verdict on its events. It fails exactly where the whole log has a fault, or for want of memory;
+    /// after a fault of `feed` with that.
+    pub fn finish(self) -> Result<Verdict, JudgeFault>
+        ensures verdict { (v : NetsValue) (x : Tree) (form : LogForm) (budget : ℕ) (bytes : List ℕ) → Fed S.holds v x form budget bytes self
+            → IfOk result (IsJudged v x form budget bytes) }
+        ensures fault { (v : NetsValue) (x : Tree) (form : LogForm) (budget : ℕ) (bytes : List ℕ) → Fed S.holds v x form budget bytes self
+            → IfErr result (IsJudgeFault form false bytes) }
+        ensures again { IfSome self.fault (λ fault. result ≡ Err fault) }
+    {
+        let ended = self.end()?;
+        let verdict = ended.track.verdict(ended.alloc, &ended.nets)?;
         Ok(verdict)
     }
 

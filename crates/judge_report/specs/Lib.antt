@@ -1,4 +1,5 @@
 pub mod Lists
+pub mod NextTexts
 pub mod Objects
 pub mod SampleTexts
 pub mod Texts

@@ -7,9 +7,11 @@ mod emitting;
 mod fault;
 mod lines;
 mod lists;
+mod next;
 mod texts;
 
 pub use emitting::emit;
 pub use fault::{Fault, fault_text};
 pub use lists::{chart_list_text, instance_list_text};
+pub use next::next_text;
 pub use texts::{accepted_text, sample_text, verdict_text};

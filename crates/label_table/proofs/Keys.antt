@@ -44,7 +44,7 @@ unrank-rank TimerStop = refl
 unrank-rank Timeout = refl
 unrank-rank Create = refl
 
-rank_is : (a b : Kind) → rank a ≡ rank b → a ≡ b
+pub rank_is : (a b : Kind) → rank a ≡ rank b → a ≡ b
 rank_is a b h = sym (unrank-rank a) ∙ ap unrank h ∙ unrank-rank b
 
 number_is : (texts : TextNumbers) (text : List ℕ) (m n : ℕ) → IsNumbered texts text m → IsNumbered texts text n → m ≡ n

@@ -1,4 +1,4 @@
-//! Kinds as numbers, for `code` and `key`.
+//! Kinds as numbers: for `code` and `key`, and for whoever sorts labels.
 
 ghost use Rattle.std.specs.Prelude.{◌≡◌};
 ghost use Rattle.label_table.specs.Keys.{rank};
@@ -6,7 +6,7 @@ ghost use Rattle.label_table.specs.Keys.{rank};
 use msc_base::Kind;
 
 /// The place of a kind in the declaration of kinds.
-pub(crate) fn kind_rank(kind: Kind) -> u8
+pub fn kind_rank(kind: Kind) -> u8
     ensures { result ≡ rank kind }
 {
     match kind {

@@ -8,4 +8,5 @@ pub mod laws;
 mod table;
 mod texts;
 
+pub use kind::kind_rank;
 pub use table::LabelTable;

@@ -59,6 +59,15 @@ impl LabelTable {
         self.labels.len() as u32
     }
 
+    /// The label of that number. It takes no memory.
+    pub fn at(&self, number: u32) -> &Label
+        requires { number < length self.now }
+        ensures label { slice_get self.now number ≡ Some result.now }
+        ensures number { label_number self.now result.now ≡ Some number }
+    {
+        &self.labels[number as usize]
+    }
+
     /// The number of a label, if the table has it. It takes no memory.
     #[tactic(auto, using(crate::proofs::Numbering::numbered))]
     pub fn number_of(&self, label: &Label) -> Option<u32>

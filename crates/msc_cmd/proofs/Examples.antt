@@ -3,7 +3,7 @@ use Rattle.std.proofs.Common.{◌≡◌, refl, codes, true, false, [], ◌∷◌
 use Rattle.std.specs.Str.{is_utf8}
 use Rattle.clap.proofs.OnLiterals.{clap_on_literals}
 use Rattle.event_log.specs.declared.event.LogForm.TheVariants.{Lines, Json}
-use Rattle.msc_cmd.specs.declared.requests.Request.TheVariants.{Judge, Check, List, Print, Sample}
+use Rattle.msc_cmd.specs.declared.requests.Request.TheVariants.{Judge, Next, Check, List, Print, Sample}
 use Rattle.msc_cmd.specs.Requests.{request_of}
 
 -- three words
@@ -325,3 +325,22 @@ sample_json = refl
 sample_budget : request_of (codes "sample" ∷ codes "2" ∷ codes "7" ∷ codes "--budget" ∷ codes "5" ∷ []) ≡ None
 unfolding clap_on_literals is_utf8
 sample_budget = refl
+
+-- ---- the next labels
+
+next_plain : request_of (codes "next" ∷ codes "d" ∷ codes "A" ∷ codes "l" ∷ []) ≡ Some (Next (codes "d") (codes "A") (codes "l") 1000000)
+unfolding clap_on_literals is_utf8
+next_plain = refl
+
+next_budget : request_of (codes "next" ∷ codes "d" ∷ codes "--budget" ∷ codes "7" ∷ codes "A" ∷ codes "l" ∷ []) ≡ Some (Next (codes "d") (codes "A") (codes "l") 7)
+unfolding clap_on_literals is_utf8
+next_budget = refl
+
+-- the answer has no form of its own in JSON, and the log is in the notation of charts
+no_next_json : request_of (codes "next" ∷ codes "d" ∷ codes "A" ∷ codes "l" ∷ codes "--json" ∷ []) ≡ None
+unfolding clap_on_literals is_utf8
+no_next_json = refl
+
+no_next_log_json : request_of (codes "next" ∷ codes "d" ∷ codes "A" ∷ codes "l" ∷ codes "--log-json" ∷ []) ≡ None
+unfolding clap_on_literals is_utf8
+no_next_log_json = refl

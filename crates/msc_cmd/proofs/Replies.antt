@@ -3,6 +3,7 @@ use Rattle.std.proofs.Common.{◌≡◌, ◌<◌, ◌≤◌, ◌⊎◌, inl, inr
 use Rattle.std.specs.Io.KnownBytes.{Appends}
 use Rattle.outside.specs.Shelves.{Files}
 use Rattle.msc_base.specs.declared.place.Place.{Place}
+use Rattle.msc_base.specs.declared.verdict.Verdict.{Verdict}
 use Rattle.msc_rules.specs.declared.rule.Rule.{Rule}
 use Rattle.msc_meaning.specs.Tables.{ChartEntry, Table, chart_at}
 use Rattle.msc_cmd.specs.declared.answer.Reply.{Reply}
@@ -15,15 +16,18 @@ use Rattle.judge_report.specs.Texts.{accepted_line, fault_line}
 use Rattle.judge_report.specs.Writing.{AppendsPart}
 use Rattle.msc_cmd.specs.Documents.{IsDocument, HasDocumentFault, IsOnlyDocument, IsOnlyFault}
 use Rattle.msc_cmd.specs.Intakes.{IsHeld}
-use Rattle.msc_cmd.specs.LogJudging.{IsJudged, IsToldLog}
+use Rattle.msc_cmd.specs.LogJudging.{IsJudged, IsNextReply, IsToldLog, IsWanted}
+use Rattle.chart_judge.specs.declared.next.Next as chart
+use Rattle.msc_cmd.specs.declared.log_reading.Wanted.{Wanted}
+use Rattle.msc_cmd.specs.declared.log_reading.Wanted.TheVariants.{TheVerdict, NextLabels}
 use Rattle.msc_cmd.specs.declared.log_reading.Judged.{Judged}
 use Rattle.msc_cmd.specs.declared.log_reading.Judged.TheVariants.{Refused}
 use Rattle.msc_cmd.specs.declared.log_reading.Judged.TheVariants as log
-use Rattle.msc_cmd.specs.Outcomes.{LogOutcome, EntryOutcome, DocumentOutcome, refused, of_charts, ChartOutcome, no_chart, of_chart, Says, CheckAnswer, JudgeAnswer, FilesOutcome, IfTold, IsTheOne, IsOfOutcome, RequestOutcome, IsOutcome, no_request, of_request}
+use Rattle.msc_cmd.specs.Outcomes.{LogOutcome, EntryOutcome, DocumentOutcome, refused, of_charts, ChartOutcome, no_chart, of_chart, Says, CheckAnswer, JudgeAnswer, FilesOutcome, IfTold, IsTheOne, IsOfOutcome, RequestOutcome, IsOutcome, TellsVerdict, no_request, of_request}
 use Rattle.msc_cmd.specs.Failures.{FailedAt, HasChart, CannotRead, CannotJudge, CannotServe}
 use Rattle.msc_cmd.specs.Openings.{IsOpened}
 use Rattle.msc_cmd.specs.declared.opening.Opened.TheVariants.{Told}
-use Rattle.msc_cmd.proofs.LogOutcomes.{one_entry, entry_one, faulty_one}
+use Rattle.msc_cmd.proofs.LogOutcomes.{one_entry, entry_one, faulty_one, judged_one, next_one}
 
 -- the one outcome where the document is refused, whatever is answered of its charts
 refused_one : (json : Bool) (files : Files) (document bytes : List ℕ) (Answer : Table → ℕ → List ℕ → Type 0) (broken : Rule) (place : Place) (status : ℕ) (text : List ℕ) → files document ≡ Some bytes → IsOnlyFault bytes broken place → status ≡ 4
@@ -93,12 +97,12 @@ no_request_one words files status text none s t = record { is = no_request none 
 
 -- The same for replies, where the entries are told
 
-pub log_told : {E : Type 0} (form : LogForm) (budget : ℕ) (json : Bool) (files : Option Files) (table : Table) (name log bytes : List ℕ) (r : Result Reply E) → IsHeld files log bytes
-    → IfOk r (λ x. IsTheOne (LogOutcome form budget json table name bytes) x.status x.text) → IfOk r (λ x. x.status < 7 → IfTold files (λ f. IsTheOne (EntryOutcome form budget json f table name log) x.status x.text))
-log_told form budget json None table name log bytes (Ok x) h k = λ _. tt
-log_told form budget json None table name log bytes (Err e) h k = tt
-log_told form budget json (Some f) table name log bytes (Ok x) h k = λ _. entry_one form budget json f table name log bytes x.status x.text h k
-log_told form budget json (Some f) table name log bytes (Err e) h k = tt
+pub log_told : {E : Type 0} (wanted : Wanted) (form : LogForm) (budget : ℕ) (json : Bool) (files : Option Files) (table : Table) (name log bytes : List ℕ) (r : Result Reply E) → IsHeld files log bytes
+    → IfOk r (λ x. IsTheOne (LogOutcome wanted form budget json table name bytes) x.status x.text) → IfOk r (λ x. x.status < 7 → IfTold files (λ f. IsTheOne (EntryOutcome wanted form budget json f table name log) x.status x.text))
+log_told wanted form budget json None table name log bytes (Ok x) h k = λ _. tt
+log_told wanted form budget json None table name log bytes (Err e) h k = tt
+log_told wanted form budget json (Some f) table name log bytes (Ok x) h k = λ _. entry_one wanted form budget json f table name log bytes x.status x.text h k
+log_told wanted form budget json (Some f) table name log bytes (Err e) h k = tt
 
 pub refused_told : {E : Type 0} (json : Bool) (files : Option Files) (d bytes : List ℕ) (Answer : Files → Table → ℕ → List ℕ → Type 0) (broken : Rule) (place : Place) (r : Result Reply E) → IsHeld files d bytes → IsOnlyFault bytes broken place
     → IfOk r (λ x. x.status ≡ 4) → IfOk r (λ x. x.text ≡ fault_line json (Document broken place)) → IfOk r (λ x. x.status < 7 → IfTold files (λ f. IsTheOne (DocumentOutcome json f d (Answer f)) x.status x.text))
@@ -120,21 +124,21 @@ checked_told json None d bytes charts count x h doc s n t = λ _. tt
 checked_told json (Some f) d bytes charts count x h doc s n t =
     λ _. charts_one json f d bytes (CheckAnswer json) charts x.status x.text h doc (said_one (accepted_line json (length charts)) x.status x.text s (t ∙ ap (accepted_line json) n))
 
-pub no_chart_told : {E : Type 0} (form : LogForm) (budget : ℕ) (json : Bool) (files : Option Files) (d n l bytes : List ℕ) (charts : Table) (r : Result Reply E) → IsHeld files d bytes → IsOnlyDocument bytes charts → chart_at charts n ≡ None → IfOk r (λ x. x.status ≡ 4)
-    → IfOk r (λ x. x.text ≡ fault_line json NoChart) → IfOk r (λ x. x.status < 7 → IfTold files (λ f. IsTheOne (FilesOutcome form budget json f d n l) x.status x.text))
-no_chart_told form budget json None d n l bytes charts (Ok x) h doc lacks s t = λ _. tt
-no_chart_told form budget json None d n l bytes charts (Err e) h doc lacks s t = tt
-no_chart_told form budget json (Some f) d n l bytes charts (Ok x) h doc lacks s t =
-    λ _. charts_one json f d bytes (JudgeAnswer form budget json f n l) charts x.status x.text h doc (no_chart_one json n charts (λ chart. EntryOutcome form budget json f charts n l) x.status x.text lacks s t)
-no_chart_told form budget json (Some f) d n l bytes charts (Err e) h doc lacks s t = tt
+pub no_chart_told : {E : Type 0} (wanted : Wanted) (form : LogForm) (budget : ℕ) (json : Bool) (files : Option Files) (d n l bytes : List ℕ) (charts : Table) (r : Result Reply E) → IsHeld files d bytes → IsOnlyDocument bytes charts → chart_at charts n ≡ None → IfOk r (λ x. x.status ≡ 4)
+    → IfOk r (λ x. x.text ≡ fault_line json NoChart) → IfOk r (λ x. x.status < 7 → IfTold files (λ f. IsTheOne (FilesOutcome wanted form budget json f d n l) x.status x.text))
+no_chart_told wanted form budget json None d n l bytes charts (Ok x) h doc lacks s t = λ _. tt
+no_chart_told wanted form budget json None d n l bytes charts (Err e) h doc lacks s t = tt
+no_chart_told wanted form budget json (Some f) d n l bytes charts (Ok x) h doc lacks s t =
+    λ _. charts_one json f d bytes (JudgeAnswer wanted form budget json f n l) charts x.status x.text h doc (no_chart_one json n charts (λ chart. EntryOutcome wanted form budget json f charts n l) x.status x.text lacks s t)
+no_chart_told wanted form budget json (Some f) d n l bytes charts (Err e) h doc lacks s t = tt
 
-pub judged_told : {E : Type 0} (form : LogForm) (budget : ℕ) (json : Bool) (files : Option Files) (d n l bytes : List ℕ) (charts : Table) (chart : ChartEntry) (r : Result Reply E) → IsHeld files d bytes → IsOnlyDocument bytes charts → chart_at charts n ≡ Some chart
-    → IfOk r (λ x. x.status < 7 → IfTold files (λ f. IsTheOne (EntryOutcome form budget json f charts n l) x.status x.text)) → IfOk r (λ x. x.status < 7 → IfTold files (λ f. IsTheOne (FilesOutcome form budget json f d n l) x.status x.text))
-judged_told form budget json None d n l bytes charts chart (Ok x) h doc same k = λ _. tt
-judged_told form budget json None d n l bytes charts chart (Err e) h doc same k = tt
-judged_told form budget json (Some f) d n l bytes charts chart (Ok x) h doc same k =
-    λ lt. charts_one json f d bytes (JudgeAnswer form budget json f n l) charts x.status x.text h doc (chart_one json n charts (λ c. EntryOutcome form budget json f charts n l) chart x.status x.text same (k lt))
-judged_told form budget json (Some f) d n l bytes charts chart (Err e) h doc same k = tt
+pub judged_told : {E : Type 0} (wanted : Wanted) (form : LogForm) (budget : ℕ) (json : Bool) (files : Option Files) (d n l bytes : List ℕ) (charts : Table) (chart : ChartEntry) (r : Result Reply E) → IsHeld files d bytes → IsOnlyDocument bytes charts → chart_at charts n ≡ Some chart
+    → IfOk r (λ x. x.status < 7 → IfTold files (λ f. IsTheOne (EntryOutcome wanted form budget json f charts n l) x.status x.text)) → IfOk r (λ x. x.status < 7 → IfTold files (λ f. IsTheOne (FilesOutcome wanted form budget json f d n l) x.status x.text))
+judged_told wanted form budget json None d n l bytes charts chart (Ok x) h doc same k = λ _. tt
+judged_told wanted form budget json None d n l bytes charts chart (Err e) h doc same k = tt
+judged_told wanted form budget json (Some f) d n l bytes charts chart (Ok x) h doc same k =
+    λ lt. charts_one json f d bytes (JudgeAnswer wanted form budget json f n l) charts x.status x.text h doc (chart_one json n charts (λ c. EntryOutcome wanted form budget json f charts n l) chart x.status x.text same (k lt))
+judged_told wanted form budget json (Some f) d n l bytes charts chart (Err e) h doc same k = tt
 
 has_chart : (files : Option Files) (d n bytes : List ℕ) (charts : Table) (chart : ChartEntry) → IsHeld files d bytes → IsDocument bytes charts → chart_at charts n ≡ Some chart → IfTold files (HasChart d n)
 has_chart None d n bytes charts chart h doc same = tt
@@ -232,14 +236,28 @@ pub five_not_two : {E : Type 0} (r : Result Reply E) → IfOk r (λ x. x.status 
 five_not_two (Ok x) s = λ two. omega (arith, s, two)
 five_not_two (Err e) s = tt
 
-pub fault_told : {E : Type 0} (form : LogForm) (budget : ℕ) (json : Bool) (table : Table) (name bytes : List ℕ) (fault : LogFault) (r : Result Reply E) → IfOk r (λ x. x.status ≡ 5) → IfOk r (λ x. x.text ≡ fault_line json (Log fault))
-    → IsJudged table name form budget bytes (Refused fault) → IfOk r (λ x. IsTheOne (LogOutcome form budget json table name bytes) x.status x.text)
-fault_told form budget json table name bytes fault (Ok x) s t is = faulty_one form budget json table name bytes fault x.status x.text is.1 s t
-fault_told form budget json table name bytes fault (Err e) s t is = tt
+pub fault_told : {E : Type 0} (wanted : Wanted) (form : LogForm) (budget : ℕ) (json : Bool) (table : Table) (name bytes : List ℕ) (fault : LogFault) (r : Result Reply E) → IfOk r (λ x. x.status ≡ 5) → IfOk r (λ x. x.text ≡ fault_line json (Log fault))
+    → IsJudged table name form budget bytes (Refused fault) → IfOk r (λ x. IsTheOne (LogOutcome wanted form budget json table name bytes) x.status x.text)
+fault_told wanted form budget json table name bytes fault (Ok x) s t is = faulty_one wanted form budget json table name bytes fault x.status x.text is.1 s t
+fault_told wanted form budget json table name bytes fault (Err e) s t is = tt
+
+-- a reply that tells the verdict, and one that tells what may come next
+pub verdict_told : {E : Type 0} (wanted : Wanted) (form : LogForm) (budget : ℕ) (json : Bool) (table : Table) (name bytes : List ℕ) (verdict : Verdict) (r : Result Reply E) → IsWanted wanted (log.Told verdict)
+    → IsJudged table name form budget bytes (log.Told verdict) → IfOk r (λ x. TellsVerdict json verdict x.status x.text) → IfOk r (λ x. IsTheOne (LogOutcome wanted form budget json table name bytes) x.status x.text)
+verdict_told TheVerdict form budget json table name bytes verdict (Ok x) w is told = judged_one form budget json table name bytes verdict x.status x.text is told.0 told.1
+verdict_told TheVerdict form budget json table name bytes verdict (Err e) w is told = tt
+verdict_told NextLabels form budget json table name bytes verdict r w is told = absurd w
+
+pub next_told : {E : Type 0} (wanted : Wanted) (form : LogForm) (budget : ℕ) (json : Bool) (table : Table) (name bytes : List ℕ) (next : chart.Next) (r : Result Reply E) → IsWanted wanted (log.Next next)
+    → IsJudged table name form budget bytes (log.Next next) → IfOk r (IsNextReply next) → IfOk r (λ x. IsTheOne (LogOutcome wanted form budget json table name bytes) x.status x.text)
+next_told TheVerdict form budget json table name bytes next r w is told = absurd w
+next_told NextLabels form budget json table name bytes next (Ok x) w is told = next_one form budget json table name bytes next x.status x.text is told
+next_told NextLabels form budget json table name bytes next (Err e) w is told = tt
 
 -- a log that was judged has no want of memory for a fault
 pub told_log : (table : Table) (name : List ℕ) (form : LogForm) (budget : ℕ) (bytes : List ℕ) (judged : Judged) → IsJudged table name form budget bytes judged → IsToldLog judged
 told_log table name form budget bytes (log.Told verdict) h = tt
+told_log table name form budget bytes (log.Next next) h = tt
 told_log table name form budget bytes (Refused fault) h = h.0
 
 -- ---- a document that was opened

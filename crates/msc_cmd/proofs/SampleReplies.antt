@@ -24,6 +24,7 @@ use Rattle.msc_cmd.specs.declared.requests.Request.TheVariants.{Sample}
 use Rattle.msc_cmd.specs.declared.sample_log.Sampled.{Sampled}
 use Rattle.msc_cmd.specs.declared.sample_log.Sampled.TheVariants.{Told, Refused}
 use Rattle.msc_cmd.specs.Documents.{IsOnlyDocument, IsOnlyFault}
+use Rattle.msc_cmd.specs.declared.log_reading.Wanted.TheVariants.{TheVerdict}
 use Rattle.msc_cmd.specs.Outcomes.{LogOutcome, bad_log, judged, ChartOutcome, SampleLogOutcome, conforming, otherwise, SampleOutcome, unaccepted, of_sample, IfTold, IsTheOne, RequestOutcome, status_of}
 use Rattle.msc_cmd.specs.Samples.{sample_log, sample_name, sample_text, yes_count}
 use Rattle.msc_cmd.specs.Sampling.{CanBeTold, IsSampled, IsToldSample, does_conform}
@@ -52,7 +53,7 @@ conforming_one : (turns seed : ℕ) (table : Table) (count largest : ℕ) (statu
     → IsLargestWeight table sample_name v.log.events largest → status ≡ 0 → text ≡ sample_line turns (yes_count turns seed) largest → IsTheOne (SampleLogOutcome turns seed table) status text
 conforming_one turns seed table count largest status text v l s t = record { is = conforming v.log.events count largest v.log.log v.is.holds l s t; only = λ other others o. by other others o }
   where
-    log_one : IsTheOne (LogOutcome Lines BUDGET_DEFAULT false table sample_name (sample_log turns seed)) 0 (verdict_line false (Conforms count))
+    log_one : IsTheOne (LogOutcome TheVerdict Lines BUDGET_DEFAULT false table sample_name (sample_log turns seed)) 0 (verdict_line false (Conforms count))
     log_one = judged_one Lines BUDGET_DEFAULT false table sample_name (sample_log turns seed) (Conforms count) 0 (verdict_line false (Conforms count)) v refl refl
 
     by : (other : ℕ) (others : List ℕ) → SampleLogOutcome turns seed table other others → (other ≡ status) × (others ≡ text)
@@ -62,12 +63,12 @@ conforming_one turns seed table count largest status text v l s t = record { is 
     by other others (otherwise bad o) = absurd (bad (log_one.only other others o).0)
 
 -- and of one that doesn't
-otherwise_one : (turns seed : ℕ) (table : Table) (status : ℕ) (text : List ℕ) → (status ≡ 0 → ⊥) → IsTheOne (LogOutcome Lines BUDGET_DEFAULT false table sample_name (sample_log turns seed)) status text
+otherwise_one : (turns seed : ℕ) (table : Table) (status : ℕ) (text : List ℕ) → (status ≡ 0 → ⊥) → IsTheOne (LogOutcome TheVerdict Lines BUDGET_DEFAULT false table sample_name (sample_log turns seed)) status text
     → IsTheOne (SampleLogOutcome turns seed table) status text
 otherwise_one turns seed table status text fails one = record { is = otherwise fails one.is; only = λ other others o. by other others o }
   where
     by : (other : ℕ) (others : List ℕ) → SampleLogOutcome turns seed table other others → (other ≡ status) × (others ≡ text)
-    by other others (conforming es n m log w k os ot) = absurd (fails (sym (one.only 0 (verdict_line false (Conforms n)) (judged es (Conforms n) log w refl refl)).0))
+    by other others (conforming es n m log w k os ot) = absurd (fails (sym (one.only 0 (verdict_line false (Conforms n)) (judged es (Conforms n) log w (refl, refl))).0))
     by other others (otherwise bad o) = one.only other others o
 
 -- the status of a log that doesn't conform
@@ -78,16 +79,16 @@ not_zero (Early events) d z = omega (arith, z)
 not_zero (TooLarge event) d z = omega (arith, z)
 
 other_status : (form : LogForm) (budget : ℕ) (json : Bool) (table : Table) (name bytes : List ℕ) (verdict : Verdict) (status : ℕ) (text : List ℕ) → IsVerdictOn table name form budget bytes verdict → does_conform verdict ≡ false
-    → LogOutcome form budget json table name bytes status text → status ≡ 0 → ⊥
+    → LogOutcome TheVerdict form budget json table name bytes status text → status ≡ 0 → ⊥
 other_status form budget json table name bytes verdict status text v d (bad_log es fault l os ot) z = omega (arith, os, z)
-other_status form budget json table name bytes verdict status text v d (judged es w l x os ot) z =
+other_status form budget json table name bytes verdict status text v d (judged es w l x told) z =
     let same : w ≡ verdict = v.is.alone w (subst (λ (us : List LineEvent). IsChartVerdict table name budget us w) (v.log.alone es None l).0 x) in
-    not_zero verdict d (sym (os ∙ ap status_of same) ∙ z)
+    not_zero verdict d (sym (told.0 ∙ ap status_of same) ∙ z)
 
 fault_status : (form : LogForm) (budget : ℕ) (json : Bool) (table : Table) (name bytes : List ℕ) (fault : LogFault) (status : ℕ) (text : List ℕ) → IsFaultOf form false bytes (Some fault)
-    → LogOutcome form budget json table name bytes status text → status ≡ 0 → ⊥
+    → LogOutcome TheVerdict form budget json table name bytes status text → status ≡ 0 → ⊥
 fault_status form budget json table name bytes fault status text f (bad_log es x l os ot) z = omega (arith, os, z)
-fault_status form budget json table name bytes fault status text f (judged es w l x os ot) z = let bad : None ≡ Some fault = (f.alone es None l).1 in cc
+fault_status form budget json table name bytes fault status text f (judged es w l x told) z = let bad : None ≡ Some fault = (f.alone es None l).1 in cc
 
 -- ---- the replies to it
 
@@ -101,13 +102,13 @@ conforms_told law turns seed table (Early events) yeses largest x some d s t h =
 conforms_told law turns seed table (TooLarge event) yeses largest x some d s t h = cc
 
 pub verdict_told : {E : Type 0} (turns seed : ℕ) (table : Table) (verdict : Verdict) (yeses largest : ℕ) (r : Result Reply E) → does_conform verdict ≡ false → IsToldSample turns seed table verdict yeses largest
-    → IfOk r (λ x. IsTheOne (LogOutcome Lines BUDGET_DEFAULT false table sample_name (sample_log turns seed)) x.status x.text) → IfOk r (λ x. IsTheOne (SampleLogOutcome turns seed table) x.status x.text)
+    → IfOk r (λ x. IsTheOne (LogOutcome TheVerdict Lines BUDGET_DEFAULT false table sample_name (sample_log turns seed)) x.status x.text) → IfOk r (λ x. IsTheOne (SampleLogOutcome turns seed table) x.status x.text)
 verdict_told turns seed table verdict yeses largest (Ok x) d h one =
     otherwise_one turns seed table x.status x.text (other_status Lines BUDGET_DEFAULT false table sample_name (sample_log turns seed) verdict x.status x.text h.verdict_is d one.is) one
 verdict_told turns seed table verdict yeses largest (Err e) d h one = tt
 
 pub refusal_told : {E : Type 0} (turns seed : ℕ) (table : Table) (fault : LogFault) (r : Result Reply E) → IsFaultOf Lines false (sample_log turns seed) (Some fault)
-    → IfOk r (λ x. IsTheOne (LogOutcome Lines BUDGET_DEFAULT false table sample_name (sample_log turns seed)) x.status x.text) → IfOk r (λ x. IsTheOne (SampleLogOutcome turns seed table) x.status x.text)
+    → IfOk r (λ x. IsTheOne (LogOutcome TheVerdict Lines BUDGET_DEFAULT false table sample_name (sample_log turns seed)) x.status x.text) → IfOk r (λ x. IsTheOne (SampleLogOutcome turns seed table) x.status x.text)
 refusal_told turns seed table fault (Ok x) f one =
     otherwise_one turns seed table x.status x.text (fault_status Lines BUDGET_DEFAULT false table sample_name (sample_log turns seed) fault x.status x.text f one.is) one
 refusal_told turns seed table fault (Err e) f one = tt

@@ -16,7 +16,7 @@ use Rattle.clap.proofs.WalkLemmas.{first_value-rows}
 use Rattle.msc_cmd.specs.declared.requests.Request.{Request}
 use Rattle.msc_cmd.specs.declared.requests.WordFault.{WordFault}
 use Rattle.msc_cmd.specs.declared.requests.WordFault.TheVariants.{NoRequest, NoMemory}
-use Rattle.msc_cmd.specs.Requests.{Answers, HasNoRequest, IsFound, check_app, check_from, check_in, check_request, command_request, judge_app, judge_request, list_app, list_from, list_in, list_request, print_app, print_from, print_in, print_request, request_by, request_from, request_in, request_of, sample_app, sample_from, sample_in, sample_request, unless_fault}
+use Rattle.msc_cmd.specs.Requests.{Answers, HasNoRequest, IsFound, check_app, check_from, check_in, check_request, command_request, judge_app, judge_request, list_app, list_from, list_in, list_request, next_app, next_from, next_in, next_request, print_app, print_from, print_in, print_request, request_by, request_from, request_in, request_of, sample_app, sample_from, sample_in, sample_request, unless_fault}
 
 pub judge_simple : is_simple judge_app ≡ true
 unfolding clap_on_literals
@@ -25,6 +25,14 @@ judge_simple = refl
 pub judge_free : is_simple_and_free judge_app ≡ true
 unfolding clap_on_literals
 judge_free = refl
+
+pub next_simple : is_simple next_app ≡ true
+unfolding clap_on_literals
+next_simple = refl
+
+pub next_free : is_simple_and_free next_app ≡ true
+unfolding clap_on_literals
+next_free = refl
 
 pub check_simple : is_simple check_app ≡ true
 unfolding clap_on_literals
@@ -96,6 +104,11 @@ pub firsts : (f : Found) (d c l b j k : Option (List ℕ)) → d ≡ first_value
 firsts f d c l b j k hd hc hl hb hj hk =
     rw (hd, hc, hl, hb, hj, hk, first_value-rows f (codes "document"), first_value-rows f (codes "chart"), first_value-rows f (codes "log"), first_value-rows f (codes "budget"), first_value-rows f (codes "json"), first_value-rows f (codes "log-json")) refl
 
+pub next_firsts : (f : Found) (d c l b : Option (List ℕ)) → d ≡ first_value f (codes "document") → c ≡ first_value f (codes "chart") → l ≡ first_value f (codes "log") → b ≡ first_value f (codes "budget")
+    → next_from d c l b ≡ next_in (rows_of f)
+next_firsts f d c l b hd hc hl hb =
+    rw (hd, hc, hl, hb, first_value-rows f (codes "document"), first_value-rows f (codes "chart"), first_value-rows f (codes "log"), first_value-rows f (codes "budget")) refl
+
 pub checked_firsts : (f : Found) (d j : Option (List ℕ)) → d ≡ first_value f (codes "document") → j ≡ first_value f (codes "json") → check_from d j ≡ check_in (rows_of f)
 checked_firsts f d j hd hj = rw (hd, hj, first_value-rows f (codes "document"), first_value-rows f (codes "json")) refl
 
@@ -155,13 +168,16 @@ print_command command words e = rw e refl
 pub sample_command : (command : List ℕ) (words : List (List ℕ)) → command ≡ codes "sample" → command_request command words ≡ sample_request words
 sample_command command words e = rw e refl
 
+pub next_command : (command : List ℕ) (words : List (List ℕ)) → command ≡ codes "next" → command_request command words ≡ next_request words
+next_command command words e = rw e refl
+
 differs : (a b : List ℕ) → (a ≡ b → ⊥) → bytes_eq a b ≡ false
 differs a b other = false_from_ne_true (bytes_eq a b) (λ e. other ((bytes_eq-Decides a b).0 e))
 
 pub no_command : (command : List ℕ) (words : List (List ℕ)) → (command ≡ codes "judge" → ⊥) → (command ≡ codes "check" → ⊥) → (command ≡ codes "list" → ⊥) → (command ≡ codes "print" → ⊥) → (command ≡ codes "sample" → ⊥)
-    → command_request command words ≡ None
-no_command command words j c l p s =
-    rw (differs command (codes "judge") j, differs command (codes "check") c, differs command (codes "list") l, differs command (codes "print") p, differs command (codes "sample") s) refl
+    → (command ≡ codes "next" → ⊥) → command_request command words ≡ None
+no_command command words j c l p s n =
+    rw (differs command (codes "judge") j, differs command (codes "check") c, differs command (codes "list") l, differs command (codes "print") p, differs command (codes "sample") s, differs command (codes "next") n) refl
 
 -- what is answered of the words behind a command is answered of all
 pub commanded : (command : List ℕ) (rest texts words : List (List ℕ)) (answer : Result Request WordFault) → words ≡ command ∷ rest → list_all is_utf8 rest ≡ true → texts ≡ rest

@@ -1,6 +1,7 @@
 -- What the command answers to its words and the entries of the shelf.
-use Rattle.std.specs.Prelude.{◌≡◌, ◌≤◌, ℕ, Bool, false, List, length, Option, Some, None}
+use Rattle.std.specs.Prelude.{◌≡◌, ◌≤◌, ◌++◌, ◌∷◌, [], ℕ, Bool, true, false, List, length, Option, Some, None}
 use Rattle.outside.specs.Shelves.{Files}
+use Rattle.msc_base.specs.declared.label.Label.{Label}
 use Rattle.msc_base.specs.declared.limits.TheConstants.Limits.{BUDGET_DEFAULT}
 use Rattle.msc_base.specs.declared.place.Place.{Place}
 use Rattle.msc_base.specs.declared.verdict.Verdict.{Verdict}
@@ -8,6 +9,7 @@ use Rattle.msc_base.specs.declared.verdict.Verdict.TheVariants.{Conforms, Fails,
 use Rattle.msc_tree.specs.Charts.{Document as Tree}
 use Rattle.msc_print.specs.ChartWords.{canonical_text}
 use Rattle.chart_lists.specs.Listing.{listed_of}
+use Rattle.msc_meaning.specs.Meanings.{Begins}
 use Rattle.msc_meaning.specs.Tables.{ChartEntry, Table, chart_at}
 use Rattle.msc_rules.specs.declared.rule.Rule.{Rule}
 use Rattle.line_events.specs.declared.event.LineEvent.{LineEvent}
@@ -15,14 +17,19 @@ use Rattle.event_log.specs.declared.event.LogFault.{LogFault}
 use Rattle.event_log.specs.declared.event.LogForm.{LogForm}
 use Rattle.event_log.specs.declared.event.LogForm.TheVariants.{Lines}
 use Rattle.event_log.specs.Logs.{LogOf}
+use Rattle.next_labels.specs.NextLabels.{AreAll}
+use Rattle.trace_judge.specs.Logs.{labels_of}
 use Rattle.chart_judge.specs.ChartVerdicts.{IsChartVerdict}
 use Rattle.chart_judge.specs.LargestWeights.{IsLargestWeight}
 use Rattle.judge_report.specs.declared.fault.Fault.TheVariants.{Document, NoChart, Log, Usage}
 use Rattle.judge_report.specs.Lists.{chart_list, instance_list}
+use Rattle.judge_report.specs.NextTexts.{next_list}
 use Rattle.judge_report.specs.SampleTexts.{sample_line}
 use Rattle.judge_report.specs.Texts.{accepted_line, fault_line, verdict_line}
+use Rattle.msc_cmd.specs.declared.log_reading.Wanted.{Wanted}
+use Rattle.msc_cmd.specs.declared.log_reading.Wanted.TheVariants.{TheVerdict, NextLabels}
 use Rattle.msc_cmd.specs.declared.requests.Request.{Request}
-use Rattle.msc_cmd.specs.declared.requests.Request.TheVariants.{Judge, Check, Print, Sample}
+use Rattle.msc_cmd.specs.declared.requests.Request.TheVariants.{Judge, Next, Check, Print, Sample}
 use Rattle.msc_cmd.specs.declared.requests.Request.TheVariants as requests
 use Rattle.msc_cmd.specs.DocumentTexts.{ReadsDocument, HasTextFault}
 use Rattle.msc_cmd.specs.Documents.{IsDocument, HasDocumentFault}
@@ -35,15 +42,38 @@ status_of (Fails event line) = 1
 status_of (Early events) = 3
 status_of (TooLarge event) = 6
 
+-- the labels that may come next behind the events of a log, which conforms so far or stops early
+pub record ListsNext (table : Table) (name : List ℕ) (events : List LineEvent) (conforms : Bool) (status : ℕ) (text : List ℕ) : Type 0 where
+  pub next : List Label
+  pub are : AreAll (λ a. Begins table name (labels_of events ++ a ∷ [])) next
+  pub status_is : status ≡ 0
+  pub text_is : text ≡ next_list conforms next
+
+-- the verdict's status and line
+abbrev pub TellsVerdict : Bool → Verdict → ℕ → List ℕ → Type 0
+TellsVerdict json verdict status text = (status ≡ status_of verdict) × (text ≡ verdict_line json verdict)
+
+-- where the log may go on the labels that may come next; else the verdict's line
+abbrev pub TellsNext : Table → List ℕ → List LineEvent → Verdict → ℕ → List ℕ → Type 0
+TellsNext table name events (Conforms count) status text = ListsNext table name events true status text
+TellsNext table name events (Fails number line) status text = TellsVerdict false (Fails number line) status text
+TellsNext table name events (Early count) status text = ListsNext table name events false status text
+TellsNext table name events (TooLarge number) status text = TellsVerdict false (TooLarge number) status text
+
+-- what is told of the events of a log on which this is the verdict, by what is wanted of it
+abbrev pub Tells : Wanted → Bool → Table → List ℕ → List LineEvent → Verdict → ℕ → List ℕ → Type 0
+Tells TheVerdict json table name events verdict status text = TellsVerdict json verdict status text
+Tells NextLabels json table name events verdict status text = TellsNext table name events verdict status text
+
 -- what the bytes of a log in this form give for the chart of a name within the budget, told as JSON or plain
-pub data LogOutcome (form : LogForm) (budget : ℕ) (json : Bool) (table : Table) (name bytes : List ℕ) (status : ℕ) (text : List ℕ) : Type 0 where
-  bad_log : (events : List LineEvent) (fault : LogFault) → LogOf form false bytes events (Some fault) → status ≡ 5 → text ≡ fault_line json (Log fault) → LogOutcome form budget json table name bytes status text
-  judged : (events : List LineEvent) (verdict : Verdict) → LogOf form false bytes events None → IsChartVerdict table name budget events verdict → status ≡ status_of verdict → text ≡ verdict_line json verdict
-      → LogOutcome form budget json table name bytes status text
+pub data LogOutcome (wanted : Wanted) (form : LogForm) (budget : ℕ) (json : Bool) (table : Table) (name bytes : List ℕ) (status : ℕ) (text : List ℕ) : Type 0 where
+  bad_log : (events : List LineEvent) (fault : LogFault) → LogOf form false bytes events (Some fault) → status ≡ 5 → text ≡ fault_line json (Log fault) → LogOutcome wanted form budget json table name bytes status text
+  judged : (events : List LineEvent) (verdict : Verdict) → LogOf form false bytes events None → IsChartVerdict table name budget events verdict → Tells wanted json table name events verdict status text
+      → LogOutcome wanted form budget json table name bytes status text
 
 -- what the log of this entry gives for the chart of that name
-pub data EntryOutcome (form : LogForm) (budget : ℕ) (json : Bool) (files : Files) (table : Table) (name log : List ℕ) (status : ℕ) (text : List ℕ) : Type 0 where
-  of_bytes : (bytes : List ℕ) → files log ≡ Some bytes → LogOutcome form budget json table name bytes status text → EntryOutcome form budget json files table name log status text
+pub data EntryOutcome (wanted : Wanted) (form : LogForm) (budget : ℕ) (json : Bool) (files : Files) (table : Table) (name log : List ℕ) (status : ℕ) (text : List ℕ) : Type 0 where
+  of_bytes : (bytes : List ℕ) → files log ≡ Some bytes → LogOutcome wanted form budget json table name bytes status text → EntryOutcome wanted form budget json files table name log status text
 
 -- what the entry of a document gives: its first fault, or what is answered of its charts
 pub data DocumentOutcome (json : Bool) (files : Files) (document : List ℕ) (Answer : Table → ℕ → List ℕ → Type 0) (status : ℕ) (text : List ℕ) : Type 0 where
@@ -61,8 +91,8 @@ abbrev pub Says : List ℕ → ℕ → List ℕ → Type 0
 Says words status text = (status ≡ 0) × (text ≡ words)
 
 -- where a log is judged: what it gives for the chart
-abbrev pub JudgeAnswer : LogForm → ℕ → Bool → Files → List ℕ → List ℕ → Table → ℕ → List ℕ → Type 0
-JudgeAnswer form budget json files name log table = ChartOutcome json name table (λ chart. EntryOutcome form budget json files table name log)
+abbrev pub JudgeAnswer : Wanted → LogForm → ℕ → Bool → Files → List ℕ → List ℕ → Table → ℕ → List ℕ → Type 0
+JudgeAnswer wanted form budget json files name log table = ChartOutcome json name table (λ chart. EntryOutcome wanted form budget json files table name log)
 
 -- where a document is checked: how many charts it has
 abbrev pub CheckAnswer : Bool → Table → ℕ → List ℕ → Type 0
@@ -74,8 +104,8 @@ ListAnswer json None table = Says (chart_list json table)
 ListAnswer json (Some name) table = ChartOutcome json name table (λ chart. Says (instance_list json (listed_of table chart)))
 
 -- what the entries of these names give
-abbrev pub FilesOutcome : LogForm → ℕ → Bool → Files → List ℕ → List ℕ → List ℕ → ℕ → List ℕ → Type 0
-FilesOutcome form budget json files document name log = DocumentOutcome json files document (JudgeAnswer form budget json files name log)
+abbrev pub FilesOutcome : Wanted → LogForm → ℕ → Bool → Files → List ℕ → List ℕ → List ℕ → ℕ → List ℕ → Type 0
+FilesOutcome wanted form budget json files document name log = DocumentOutcome json files document (JudgeAnswer wanted form budget json files name log)
 
 -- what the entry of this name gives where it is to be printed: later rules than those of the text aren't looked at
 pub data PrintOutcome (files : Files) (document : List ℕ) (status : ℕ) (text : List ℕ) : Type 0 where
@@ -88,7 +118,7 @@ pub data PrintOutcome (files : Files) (document : List ℕ) (status : ℕ) (text
 pub data SampleLogOutcome (turns seed : ℕ) (table : Table) (status : ℕ) (text : List ℕ) : Type 0 where
   conforming : (events : List LineEvent) (count largest : ℕ) → LogOf Lines false (sample_log turns seed) events None → IsChartVerdict table sample_name BUDGET_DEFAULT events (Conforms count)
       → IsLargestWeight table sample_name events largest → status ≡ 0 → text ≡ sample_line turns (yes_count turns seed) largest → SampleLogOutcome turns seed table status text
-  otherwise : (status ≡ 0 → ⊥) → LogOutcome Lines BUDGET_DEFAULT false table sample_name (sample_log turns seed) status text → SampleLogOutcome turns seed table status text
+  otherwise : (status ≡ 0 → ⊥) → LogOutcome TheVerdict Lines BUDGET_DEFAULT false table sample_name (sample_log turns seed) status text → SampleLogOutcome turns seed table status text
 
 -- what a sample gives, whatever the entries are: the first fault of its document, or what its log gives for its chart
 pub data SampleOutcome (turns seed : ℕ) (status : ℕ) (text : List ℕ) : Type 0 where
@@ -97,7 +127,8 @@ pub data SampleOutcome (turns seed : ℕ) (status : ℕ) (text : List ℕ) : Typ
 
 -- what a request gives for the entries
 abbrev pub RequestOutcome : Request → Files → ℕ → List ℕ → Type 0
-RequestOutcome (Judge document chart log budget json form) files = FilesOutcome form budget json files document chart log
+RequestOutcome (Judge document chart log budget json form) files = FilesOutcome TheVerdict form budget json files document chart log
+RequestOutcome (Next document chart log budget) files = FilesOutcome NextLabels Lines budget false files document chart log
 RequestOutcome (Check document json) files = DocumentOutcome json files document (CheckAnswer json)
 RequestOutcome (requests.List document chart json) files = DocumentOutcome json files document (ListAnswer json chart)
 RequestOutcome (Print document) files = PrintOutcome files document

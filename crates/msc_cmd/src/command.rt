@@ -12,9 +12,11 @@ ghost use Rattle.msc_cmd.specs.declared.requests.Request.TheVariants.{Sample};
 use crate::answer::{Reply, Style, judge_files, make_reply};
 use crate::checking::check_file;
 use crate::listing::list_file;
+use crate::log_reading::Wanted;
 use crate::printing::print_file;
 use crate::requests::{Request, WordFault, request_of};
 use crate::sampling::sample_reply;
+use event_log::LogForm;
 use judge_report::{Fault, emit};
 use msc_base::{NoMemory, Words};
 use outside::{Shelf, Sink};
@@ -42,6 +44,21 @@ fn serve<S: Shelf>(alloc: Global, request: &Request, shelf: &mut S) -> Result<Re
                 form: *form,
                 budget: *budget,
                 json: *json,
+                wanted: Wanted::TheVerdict,
+            };
+            judge_files(alloc, document, chart, log, style, shelf)
+        }
+        Request::Next {
+            document,
+            chart,
+            log,
+            budget,
+        } => {
+            let style = Style {
+                form: LogForm::Lines,
+                budget: *budget,
+                json: false,
+                wanted: Wanted::NextLabels,
             };
             judge_files(alloc, document, chart, log, style, shelf)
         }
@@ -77,7 +94,7 @@ fn answer<S: Shelf>(alloc: Global, words: &Words, shelf: &mut S) -> Result<Reply
 ///
 /// | Status | Meaning |
 /// |---|---|
-/// | 0 | the log conforms, also that of a sample; the document is accepted, listed or printed |
+/// | 0 | the log conforms, also that of a sample; what may come next in it is listed; the document is accepted, listed or printed |
 /// | 1 | the log fails at an event |
 /// | 2 | the words are no request |
 /// | 3 | the log stops early |

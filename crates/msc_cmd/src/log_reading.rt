@@ -9,21 +9,33 @@ ghost use Rattle.msc_acceptance.specs.AcceptedCharts.{IsAcceptedTable};
 ghost use Rattle.msc_meaning.specs.Tables.{Table};
 ghost use Rattle.msc_meaning.specs.Views.{table_view};
 ghost use Rattle.msc_cmd.specs.Documents.{HasChartNamed};
-ghost use Rattle.msc_cmd.specs.LogJudging.{IsJudgedLog, IsReadingLog, IsStep};
+ghost use Rattle.msc_cmd.specs.LogJudging.{IsJudgedLog, IsReadingLog, IsStep, IsWanted};
+ghost use Rattle.msc_cmd.specs.declared.log_reading.Wanted.TheVariants.{TheVerdict, NextLabels};
 
 use crate::entry::{PIECE_BYTES, ReadFault, read_piece, start_entry};
-use chart_judge::{ChartJudge, JudgeFault};
+use chart_judge::{ChartJudge, JudgeFault, Next};
 use event_log::{LogFault, LogForm};
 use msc_acceptance::Accepted;
 use msc_base::{Text, Verdict};
 use outside::Shelf;
 use std::alloc::Global;
 
-/// What the bytes of a log come to for a chart.
+/// What is wanted of a log.
 #[derive(Clone, Copy, Debug, PartialEq, Eq)]
+pub enum Wanted {
+    /// The verdict on its events.
+    TheVerdict,
+    /// The labels that may come next.
+    NextLabels,
+}
+
+/// What the bytes of a log come to for a chart.
+#[derive(Drop)]
 pub enum Judged {
     /// A log, on whose events this is the verdict.
     Told(Verdict),
+    /// A log, with the verdict on its events and the labels that may come next.
+    Next(Next),
     /// No log: this is their first fault.
     Refused(LogFault),
 }
@@ -69,16 +81,44 @@ fn take_more<S: Shelf>(
     }
 }
 
-/// What the log that has been read comes to.
-fn ended(judge: ChartJudge) -> Result<Judged, ReadFault>
+/// The verdict on the log that has been read.
+fn verdict_of(judge: ChartJudge) -> Result<Judged, ReadFault>
     ensures log { (table : Table) (chart : List ℕ) (form : Form) (budget : ℕ) (files : Option Files) (name : List ℕ) → IsReadingLog table chart form budget files name (Some []) judge
         → IfOk result (IsJudgedLog table chart form budget files name) }
+    ensures wanted { IfOk result (IsWanted TheVerdict) }
     ensures failed { IsErrOf result ReadFault.Failed → ⊥ }
 {
     match judge.finish() {
         Ok(verdict) => Ok(Judged::Told(verdict)),
         Err(JudgeFault::NoMemory) => Err(ReadFault::NoMemory),
         Err(JudgeFault::Log(fault)) => Ok(Judged::Refused(fault)),
+    }
+}
+
+/// What may come next in the log that has been read.
+fn next_of(judge: ChartJudge) -> Result<Judged, ReadFault>
+    ensures log { (table : Table) (chart : List ℕ) (form : Form) (budget : ℕ) (files : Option Files) (name : List ℕ) → IsReadingLog table chart form budget files name (Some []) judge
+        → IfOk result (IsJudgedLog table chart form budget files name) }
+    ensures wanted { IfOk result (IsWanted NextLabels) }
+    ensures failed { IsErrOf result ReadFault.Failed → ⊥ }
+{
+    match judge.next() {
+        Ok(next) => Ok(Judged::Next(next)),
+        Err(JudgeFault::NoMemory) => Err(ReadFault::NoMemory),
+        Err(JudgeFault::Log(fault)) => Ok(Judged::Refused(fault)),
+    }
+}
+
+/// What the log that has been read comes to, by what is wanted of it.
+fn ended(judge: ChartJudge, wanted: Wanted) -> Result<Judged, ReadFault>
+    ensures log { (table : Table) (chart : List ℕ) (form : Form) (budget : ℕ) (files : Option Files) (name : List ℕ) → IsReadingLog table chart form budget files name (Some []) judge
+        → IfOk result (IsJudgedLog table chart form budget files name) }
+    ensures wanted { IfOk result (IsWanted wanted) }
+    ensures failed { IsErrOf result ReadFault.Failed → ⊥ }
+{
+    match wanted {
+        Wanted::TheVerdict => verdict_of(judge),
+        Wanted::NextLabels => next_of(judge),
     }
 }
 
@@ -91,6 +131,7 @@ pub fn judge_entry<S: Shelf>(
     name: &Text,
     form: LogForm,
     budget: u64,
+    wanted: Wanted,
 ) -> Result<Judged, ReadFault>
     requires accepted { IsAcceptedTable (table_view accepted.now) }
     requires there { HasChartNamed (table_view accepted.now) chart.now }
@@ -99,6 +140,7 @@ pub fn judge_entry<S: Shelf>(
     ensures files { S.files shelf.new ≡ S.files shelf.old }
     ensures later { S.faults shelf.old ≤ S.faults shelf.new }
     ensures log { IfOk result (IsJudgedLog (table_view accepted.now) chart.now form budget (S.files shelf.old) name.now) }
+    ensures wanted { IfOk result (IsWanted wanted) }
     ensures failed { IsErrOf result ReadFault.Failed → Rose (S.faults shelf.old) (S.faults shelf.new) }
     ensures broken { IsErrOf result ReadFault.Failed → S.broken shelf.new ≡ true }
     ensures last { IsErrOf result ReadFault.Failed → S.last shelf.new ≡ Some name.now }
@@ -108,7 +150,7 @@ pub fn judge_entry<S: Shelf>(
     loop {
         match take_more(shelf, name, &mut judge)? {
             Step::More => {}
-            Step::End => return ended(judge),
+            Step::End => return ended(judge, wanted),
             Step::Fault(fault) => return Ok(Judged::Refused(fault)),
         }
     }

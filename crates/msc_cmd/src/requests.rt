@@ -4,8 +4,8 @@ ghost use Rattle.std.specs.Prelude.{◌≡◌, IfOk, IfNone, IfSome, IsErrOf, ma
 ghost use Rattle.std.specs.List.{list_all};
 ghost use Rattle.std.specs.Str.{is_utf8};
 ghost use Rattle.clap.specs.Words.{app_of, found_of, is_simple, is_simple_and_free, rows_of, with_rule};
-ghost use Rattle.msc_cmd.specs.Requests.{Answers, HasNoRequest, IsFound, bare, budget_from, budget_in, check_app, check_from, check_in, check_request, command_request, flag, form_of, is_true, judge_app, judge_request, list_app, list_from, list_in, list_request, optional, print_app, print_from, print_in, print_request, request_from, request_in, request_of as request_in_words, sample_app, sample_from, sample_in, sample_request, seed_in, turns_in, valued, wanted};
-ghost use Rattle.msc_cmd.specs.declared.requests.Request.TheVariants.{Judge, List};
+ghost use Rattle.msc_cmd.specs.Requests.{Answers, HasNoRequest, IsFound, bare, budget_from, check_app, check_from, check_in, check_request, command_request, flag, form_of, is_true, judge_app, judge_request, list_app, list_from, list_in, list_request, next_app, next_from, next_in, next_request, optional, print_app, print_from, print_in, print_request, request_from, request_in, request_of as request_in_words, sample_app, sample_from, sample_in, sample_request, seed_in, turns_in, valued, wanted};
+ghost use Rattle.msc_cmd.specs.declared.requests.Request.TheVariants.{Judge, List, Next};
 ghost use Rattle.msc_cmd.specs.declared.requests.WordFault.TheVariants.{NoRequest};
 
 use crate::numbers::number_in;
@@ -27,6 +27,13 @@ pub enum Request {
         budget: u64,
         json: bool,
         form: LogForm,
+    },
+    /// List the labels that may come next in this log, by this chart of this document.
+    Next {
+        document: Text,
+        chart: Text,
+        log: Text,
+        budget: u64,
     },
     /// Say whether this document is accepted.
     Check {
@@ -129,6 +136,17 @@ fn judge_command<'a>(alloc: Global) -> Result<Command<'a>, AllocError>
     with_flag(alloc, command, "log-json")
 }
 
+/// What may stand behind `next`.
+fn next_command<'a>(alloc: Global) -> Result<Command<'a>, AllocError>
+    ensures { IfOk result (λ c. app_of c ≡ next_app) }
+{
+    let command = bare_command(alloc, "next");
+    let command = with_wanted(alloc, command, "document")?;
+    let command = with_wanted(alloc, command, "chart")?;
+    let command = with_wanted(alloc, command, "log")?;
+    with_valued(alloc, command, "budget")
+}
+
 /// What may stand behind `check`.
 fn check_command<'a>(alloc: Global) -> Result<Command<'a>, AllocError>
     ensures { IfOk result (λ c. app_of c ≡ check_app) }
@@ -192,20 +210,13 @@ const BUDGET_DIGITS: usize = 7;
 /// How many digits the numbers of a sample may have.
 const SAMPLE_DIGITS: usize = 10;
 
-/// The budget in a text.
-fn budget_in(text: &str) -> Option<u64>
-    ensures { result ≡ budget_in text.now }
-{
-    number_in(text, BUDGET_DIGITS, 1, Limits::BUDGET_MOST)
-}
-
 /// The budget that is asked for, or the one that stands where none is.
 fn budget_given(text: Option<&str>) -> Option<u64>
     ensures { result ≡ budget_from (option_map (λ s. s.now) text.entry) }
 {
     match text {
         None => Some(Limits::BUDGET_DEFAULT),
-        Some(text) => budget_in(text),
+        Some(text) => number_in(text, BUDGET_DIGITS, 1, Limits::BUDGET_MOST),
     }
 }
 
@@ -262,6 +273,56 @@ fn request_of_texts(
     let json = is_given(json);
     let form = form_given(log_json);
     match judge_of(alloc, document, chart, log, budget, json, form) {
+        Ok(request) => Ok(request),
+        Err(_) => Err(WordFault::NoMemory),
+    }
+}
+
+/// The request for the next labels, with texts of its own.
+fn next_of(
+    alloc: Global,
+    document: &str,
+    chart: &str,
+    log: &str,
+    budget: u64,
+) -> Result<Request, NoMemory>
+    ensures { IfOk result (λ r. r ≡ Next document.now chart.now log.now budget) }
+{
+    let document = Text::from_bytes(alloc, document.as_bytes())?;
+    let chart = Text::from_bytes(alloc, chart.as_bytes())?;
+    let log = Text::from_bytes(alloc, log.as_bytes())?;
+    Ok(Request::Next {
+        document,
+        chart,
+        log,
+        budget,
+    })
+}
+
+/// The request for the next labels, from what each argument was given.
+fn next_of_texts(
+    alloc: Global,
+    document: Option<&str>,
+    chart: Option<&str>,
+    log: Option<&str>,
+    budget: Option<&str>,
+) -> Result<Request, WordFault>
+    ensures { Answers (next_from (option_map (λ s. s.now) document.entry) (option_map (λ s. s.now) chart.entry) (option_map (λ s. s.now) log.entry)
+        (option_map (λ s. s.now) budget.entry)) result }
+{
+    let Some(document) = document else {
+        return Err(WordFault::NoRequest);
+    };
+    let Some(chart) = chart else {
+        return Err(WordFault::NoRequest);
+    };
+    let Some(log) = log else {
+        return Err(WordFault::NoRequest);
+    };
+    let Some(budget) = budget_given(budget) else {
+        return Err(WordFault::NoRequest);
+    };
+    match next_of(alloc, document, chart, log, budget) {
         Ok(request) => Ok(request),
         Err(_) => Err(WordFault::NoMemory),
     }
@@ -380,6 +441,19 @@ fn request_of_matches(alloc: Global, matches: &ArgMatches) -> Result<Request, Wo
     )
 }
 
+/// The request for the next labels in what `clap` found.
+fn next_of_matches(alloc: Global, matches: &ArgMatches) -> Result<Request, WordFault>
+    ensures { Answers (next_in (rows_of (found_of matches.now))) result }
+{
+    next_of_texts(
+        alloc,
+        matches.get_str("document"),
+        matches.get_str("chart"),
+        matches.get_str("log"),
+        matches.get_str("budget"),
+    )
+}
+
 /// The request to check in what `clap` found.
 fn check_of_matches(alloc: Global, matches: &ArgMatches) -> Result<Request, WordFault>
     ensures { Answers (check_in (rows_of (found_of matches.now))) result }
@@ -438,6 +512,17 @@ fn judge_words(alloc: Global, words: &[&str]) -> Result<Request, WordFault>
     };
     let matches = matches_in(command, words)?;
     request_of_matches(alloc, &matches)
+}
+
+/// The request that the words behind `next` make.
+fn next_words(alloc: Global, words: &[&str]) -> Result<Request, WordFault>
+    ensures { Answers (next_request (map (λ w. w.now) words.entry.now)) result }
+{
+    let Ok(command) = next_command(alloc) else {
+        return Err(WordFault::NoMemory);
+    };
+    let matches = matches_in(command, words)?;
+    next_of_matches(alloc, &matches)
 }
 
 /// The request that the words behind `check` make.
@@ -502,6 +587,9 @@ fn command_words(alloc: Global, command: &Text, words: &[&str]) -> Result<Reques
     }
     if is_text(command.bytes(), "sample") {
         return sample_words(alloc, words);
+    }
+    if is_text(command.bytes(), "next") {
+        return next_words(alloc, words);
     }
     Err(WordFault::NoRequest)
 }

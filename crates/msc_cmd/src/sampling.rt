@@ -12,7 +12,7 @@ ghost use Rattle.msc_cmd.specs.Sampling.{CanBeTold, IsSampled, IsToldSample, doe
 use crate::answer::{Reply, answer_log, make_reply};
 use crate::document::{Document, has_chart, settle};
 use crate::document_text::read_text;
-use crate::log_reading::Judged;
+use crate::log_reading::{Judged, Wanted};
 use crate::sample_log::{Sampled, judge_turns};
 use chart_judge::laws::largest_weights_are_told;
 use judge_report::{Fault, sample_text as text_of_sample};
@@ -69,7 +69,7 @@ fn answer_told(
         let text = text_of_sample(alloc, turns, yes, largest)?;
         Ok(Reply { status: 0, text })
     } else {
-        answer_log(alloc, &Judged::Told(verdict), false)
+        answer_log(alloc, &Judged::Told(verdict), Wanted::TheVerdict, false)
     }
 }
 
@@ -89,7 +89,9 @@ fn answer_sample(alloc: Global, sampled: &Sampled, turns: u64) -> Result<Reply, 
             yes,
             largest,
         } => answer_told(alloc, verdict, turns, yes, largest),
-        Sampled::Refused(fault) => answer_log(alloc, &Judged::Refused(fault), false),
+        Sampled::Refused(fault) => {
+            answer_log(alloc, &Judged::Refused(fault), Wanted::TheVerdict, false)
+        }
     }
 }
 

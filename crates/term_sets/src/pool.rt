@@ -85,8 +85,8 @@ impl Pool {
         self.memory.rows()
     }
 
-    /// The set that is held.
-    fn set(&self) -> &TermSet
+    /// The set that is held. It takes no memory.
+    pub fn set(&self) -> &TermSet
         ensures { result.now ≡ (held_set self.now).terms }
     {
         match &self.held {

@@ -247,7 +247,7 @@ taken-is x v empty stored own e h n o = record {
 
 -- whether anything was found from the whole term
 
-some_weight : (x : Tree) → 1 ≤ weight x
+pub some_weight : (x : Tree) → 1 ≤ weight x
 some_weight Nil = omega arith
 some_weight (Event e) = omega arith
 some_weight (Join m xs) = omega arith

@@ -98,6 +98,15 @@ impl Nets {
         self.labels.len()
     }
 
+    /// The label of that number. It takes no memory.
+    pub fn label_at(&self, number: u32) -> &Label
+        requires { number < length self.now.labels }
+        ensures label { slice_get self.now.labels number ≡ Some result.now }
+        ensures number { label_number self.now.labels result.now ≡ Some number }
+    {
+        self.labels.at(number)
+    }
+
     /// How many nets the tables have. It takes no memory.
     pub fn count(&self) -> u32
         ensures { result ≡ net_count self.now.tables }

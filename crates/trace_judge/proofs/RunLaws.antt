@@ -1,5 +1,5 @@
 -- Sets of residual terms tell the runs of the term.
-use Rattle.std.specs.Prelude.{◌≡◌, ◌↔◌, Bool, IsTrue, List, [], ◌∷◌, length, refl}
+use Rattle.std.specs.Prelude.{◌≡◌, ◌↔◌, Bool, IsTrue, List, [], ◌∷◌, ◌++◌, length, refl}
 use Rattle.std.proofs.Common.{subst, inl}
 use Rattle.msc_base.specs.declared.label.Label.{Label}
 use Rattle.term_tables.specs.NetValues.{NetsValue}
@@ -9,10 +9,11 @@ use Rattle.msc_base.specs.Lists.{IsAmong}
 use Rattle.term_laws.specs.Sound.{IsSound}
 use Rattle.term_laws.proofs.FullSound.{full_soundness_is_kept}
 use Rattle.term_laws.proofs.SoundLaws.{residuals_are_exact}
-use Rattle.trace_judge.specs.Laws.{SetsTellRuns}
+use Rattle.trace_judge.specs.Laws.{SetsTellNextLabels, SetsTellRuns}
 use Rattle.trace_judge.specs.Logs.{IsLeft, AreResiduals, BeginsTermRun, IsTermRun}
-use Rattle.trace_judge.specs.Sets.{IsSoundFor, HasEnding}
+use Rattle.trace_judge.specs.Sets.{IsSoundFor, GoesOnWith, HasEnding}
 use Rattle.trace_judge.specs.Verdicts.{LeavesSome, LeavesEnding}
+use Rattle.trace_judge.proofs.Lefts.{left_more, left_last}
 
 sound_of : (v : NetsValue) (x : Tree) → IsSoundFor v x → IsSound v.tables x
 sound_of v x h = full_soundness_is_kept.suffices (length v.labels) v.tables x h.full
@@ -53,6 +54,18 @@ sets_tell_runs = record {
     };
   };
 }
+
+goes_on : (v : NetsValue) (x : Tree) (l : List Label) (a : Label) (set : List Tree) → IsSoundFor v x → AreResiduals v x l set → GoesOnWith v a set → BeginsTermRun v x (l ++ a ∷ [])
+goes_on v x l a set h r g = left_begins v x g.term (l ++ a ∷ []) h (left_more v x g.left.term g.term l a ((r.exact g.left.term).to g.left.held) g.left.left)
+
+begins_on : (v : NetsValue) (x : Tree) (l : List Label) (a : Label) (set : List Tree) → IsSoundFor v x → AreResiduals v x l set → BeginsTermRun v x (l ++ a ∷ []) → GoesOnWith v a set
+begins_on v x l a set h r b =
+    let i = begins_left v x (l ++ a ∷ []) h b in
+    let last = left_last v x i.term l a i.left in
+    record { term = i.term; left = record { term = last.term; held = (r.exact last.term).from last.left; left = last.after } }
+
+pub sets_tell_next_labels : SetsTellNextLabels
+sets_tell_next_labels v x l a set h r = record { to = goes_on v x l a set h r; from = begins_on v x l a set h r }
 
 pub ending_run : (v : NetsValue) (x : Tree) (l : List Label) → IsSoundFor v x → LeavesEnding v x l → IsTermRun v x l
 ending_run v x l h e = record {

@@ -8,7 +8,7 @@ use Rattle.chart_term.specs.TermPatterns.{Both}
 use Rattle.chart_term.specs.Terms.{Tree}
 use Rattle.term_laws.specs.Listing.{set_weight}
 use Rattle.trace_judge.specs.Logs.{AreResiduals, BeginsTermRun, IsTermRun}
-use Rattle.trace_judge.specs.Sets.{IsSoundFor, AreSuccessors, HasEnding}
+use Rattle.trace_judge.specs.Sets.{IsSoundFor, AreSuccessors, GoesOnWith, HasEnding}
 use Rattle.trace_judge.specs.Verdicts.{IsTermVerdict, TellsRuns}
 
 -- before the first event only the term is left; what is left after one event more is what an event leaves of the set; all such sets of
@@ -22,6 +22,11 @@ pub record SetsGoOn : Type 0 where
 pub record SetsTellRuns : Type 0 where
   pub empty : (v : NetsValue) (x : Tree) (labels : List Label) (set : List Tree) → IsSoundFor v x → AreResiduals v x labels set → Both (set ≡ []) (BeginsTermRun v x labels → ⊥)
   pub ends : (v : NetsValue) (x : Tree) (labels : List Label) (set : List Tree) → IsSoundFor v x → AreResiduals v x labels set → Both (HasEnding v set) (IsTermRun v x labels)
+
+-- something is left of the set after an event with a label exactly where a run of the term begins with the labels and that one
+abbrev pub SetsTellNextLabels : Type 0
+SetsTellNextLabels = (v : NetsValue) (x : Tree) (labels : List Label) (label : Label) (set : List Tree) → IsSoundFor v x → AreResiduals v x labels set
+    → Both (GoesOnWith v label set) (BeginsTermRun v x (labels ++ label ∷ []))
 
 -- there is one verdict at most, and it tells the runs of the term
 pub record VerdictsTellRuns : Type 0 where

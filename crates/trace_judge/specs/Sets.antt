@@ -38,6 +38,11 @@ pub record AreSuccessors (v : NetsValue) (label : Label) (terms next : List Tree
   pub different : AreDifferent next
   pub exact : (y : Tree) → Both (IsAmong next y) (IsLeftOf v label terms y)
 
+-- something is left of the terms after an event with the label
+pub record GoesOnWith (v : NetsValue) (label : Label) (terms : List Tree) : Type 0 where
+  pub term : Tree
+  pub left : IsLeftOf v label terms term
+
 -- all that is left of the terms weighs more than the budget
 pub record PassBudget (v : NetsValue) (label : Label) (terms : List Tree) (budget : ℕ) : Type 0 where
   pub next : List Tree

@@ -2,6 +2,7 @@
 use Rattle.std.specs.Prelude.{ℕ, ◌≡◌, ◌≤◌, List, [], ◌++◌}
 use Rattle.msc_base.specs.declared.label.Label.{Label}
 use Rattle.msc_base.specs.declared.verdict.Verdict.{Verdict}
+use Rattle.msc_base.specs.declared.verdict.Verdict.TheVariants.{Conforms, Fails, Early, TooLarge}
 use Rattle.line_events.specs.declared.event.LineEvent.{LineEvent}
 use Rattle.term_tables.specs.NetValues.{NetsValue}
 use Rattle.chart_term.specs.Tables.{terms_over}
@@ -41,6 +42,13 @@ PassesAt v x budget events number = by.PassesAt (WeighsWithin v x budget) (Weigh
 -- the verdict on these events, by what is left of the term
 abbrev pub IsTermVerdict : NetsValue → Tree → ℕ → List LineEvent → Verdict → Type 0
 IsTermVerdict v x budget events verdict = by.IsVerdict (WeighsWithin v x budget) (WeighsMore v x budget) (LeavesEnding v x) (LeavesSome v x) events verdict
+
+-- the verdict is one that more events may still change: the log conforms so far, or stops early
+abbrev pub IsOpen : Verdict → Type 0
+IsOpen (Conforms count) = Unit {0}
+IsOpen (Fails number line) = ⊥
+IsOpen (Early count) = Unit {0}
+IsOpen (TooLarge number) = ⊥
 
 -- what the verdict says of the term's runs
 abbrev pub TellsRuns : NetsValue → Tree → List LineEvent → Verdict → Type 0

@@ -9,7 +9,7 @@ ghost use Rattle.trace_judge.specs.Advances.{Follows, FollowsOpen, settled, rise
 ghost use Rattle.trace_judge.specs.Sets.{IsSoundFor};
 ghost use Rattle.trace_judge.specs.Steps.{ForLabels, IsNumber};
 ghost use Rattle.trace_judge.specs.Tracks.{Fed, IfHeld, IsSame};
-ghost use Rattle.trace_judge.specs.Verdicts.{IsTermVerdict, TellsRuns, IsLargest};
+ghost use Rattle.trace_judge.specs.Verdicts.{IsOpen, IsTermVerdict, TellsRuns, IsLargest};
 ghost use Rattle.line_events.specs.declared.event.LineEvent.{LineEvent};
 
 use crate::advance::{Outcome, advance};
@@ -154,21 +154,21 @@ impl<S: Store + Drop> Track<S> {
         Ok(())
     }
 
-    /// The set of what is left, unless the term alone is above the budget. It takes no memory. Behind a settled verdict it stays as it
-    /// was then.
-    pub fn set(&self) -> Option<&S>
-        ensures { MatchOption result (self.now.set ≡ None) (λ set. self.now.set ≡ Some set.now) }
+    /// The set of what is left, as long as no verdict is settled. It takes no memory.
+    pub fn open_set(&self) -> Option<&S>
+        ensures { MatchOption result (self.now.ended ≡ None → self.now.set ≡ None) (λ set. (self.now.ended ≡ None) × (self.now.set ≡ Some set.now)) }
     {
-        match &self.set {
-            Some(set) => Some(set),
-            None => None,
+        match (self.ended, &self.set) {
+            (None, Some(set)) => Some(set),
+            _ => None,
         }
     }
 
     /// The verdict where none is settled, by the set.
     fn open_verdict(&self, alloc: Global, nets: &Nets, set: &S) -> Result<Verdict, NoMemory>
         requires { S.serves set.now nets.now }
-        ensures { IfOk result (IsOpenVerdict nets.now (S.holds set.now) self.now.events) }
+        ensures verdict { IfOk result (IsOpenVerdict nets.now (S.holds set.now) self.now.events) }
+        ensures open { IfOk result IsOpen }
     {
         let events = self.events;
         if set.may_end(alloc, nets)? {
@@ -185,6 +185,7 @@ impl<S: Store + Drop> Track<S> {
             → IfOk result (IsTermVerdict nets.now x budget events) }
         ensures runs { (x : Tree) (budget : ℕ) (events : List LineEvent) → Fed S.holds nets.now x budget events self.now
             → IfOk result (TellsRuns nets.now x events) }
+        ensures settled { IfOk result (λ verdict. MatchOption self.now.ended (IsOpen verdict) (λ settled. verdict ≡ settled)) }
     {
         match (self.ended, &self.set) {
             (Some(verdict), _) => Ok(verdict),

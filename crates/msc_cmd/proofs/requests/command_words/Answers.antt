@@ -1,7 +1,7 @@
 use Rattle.std.proofs.Common.{◌≡◌, codes, rules, subst, sym, Option, map}
 use Rattle.msc_cmd.specs.declared.requests.Request.{Request}
 use Rattle.msc_cmd.specs.Requests.{Answers}
-use Rattle.msc_cmd.proofs.WordLaws.{judge_command, check_command, list_command, print_command, sample_command, no_command}
+use Rattle.msc_cmd.proofs.WordLaws.{judge_command, check_command, list_command, print_command, sample_command, next_command, no_command}
 use Rattle.msc_cmd.proofs.requests.command_words.Goals as goal
 
 pub returns-then-is_text : goal.returns-then-is_text
@@ -29,6 +29,11 @@ returns-then-is_text-5 c =
     let is : c.args.command.now ≡ codes "sample" = search rules in
     subst (λ (o : Option Request). Answers o c.sample_words.result) (sym (sample_command c.args.command.now (map (λ w. w.now) c.args.words.now) is)) c.sample_words.ensures
 
+pub returns-then-is_text-6 : goal.returns-then-is_text-6
+returns-then-is_text-6 c =
+    let is : c.args.command.now ≡ codes "next" = search rules in
+    subst (λ (o : Option Request). Answers o c.next_words.result) (sym (next_command c.args.command.now (map (λ w. w.now) c.args.words.now) is)) c.next_words.ensures
+
 pub returns : goal.returns
 returns c =
     let judge : c.args.command.now ≡ codes "judge" → ⊥ = search rules in
@@ -36,4 +41,5 @@ returns c =
     let list : c.args.command.now ≡ codes "list" → ⊥ = search rules in
     let print : c.args.command.now ≡ codes "print" → ⊥ = search rules in
     let sample : c.args.command.now ≡ codes "sample" → ⊥ = search rules in
-    no_command c.args.command.now (map (λ w. w.now) c.args.words.now) judge check list print sample
+    let next : c.args.command.now ≡ codes "next" → ⊥ = search rules in
+    no_command c.args.command.now (map (λ w. w.now) c.args.words.now) judge check list print sample next

@@ -1,11 +1,11 @@
 use Rattle.std.proofs.Common.{false, subst}
 use Rattle.chart_judge.specs.Judged.{IsJudgeFault}
-use Rattle.msc_cmd.specs.declared.log_reading.Judged.TheVariants.{Told, Refused}
+use Rattle.msc_cmd.specs.declared.log_reading.Judged.TheVariants.{Next, Refused}
 use Rattle.msc_cmd.proofs.LogTaking.{log_end}
-use Rattle.msc_cmd.proofs.log_reading.ended.Goals as goal
+use Rattle.msc_cmd.proofs.log_reading.next_of.Goals as goal
 
 pub returns-in-Ok-clause-log : goal.returns-in-Ok-clause-log
-returns-in-Ok-clause-log c = λ table chart form budget files name h. log_end table chart form budget files name c.args.judge (Told c.in-Ok.verdict) (λ bytes k. c.in-Ok.ensures.verdict table chart form budget bytes k) h
+returns-in-Ok-clause-log c = λ table chart form budget files name h. log_end table chart form budget files name c.args.judge (Next c.in-Ok.next) (λ bytes k. c.in-Ok.ensures.next table chart form budget bytes k) h
 
 pub returns-in-Err-Log-clause-log : goal.returns-in-Err-Log-clause-log
 returns-in-Err-Log-clause-log c = λ table chart form budget files name h.

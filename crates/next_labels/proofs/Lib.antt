@@ -1,0 +1,4 @@
+pub mod Rising
+mod LabelOrder
+mod GoingOn
+mod FoundLabels
