@@ -7,11 +7,11 @@ use Rattle.event_log.specs.declared.event.LogForm.{LogForm}
 use Rattle.chart_term.specs.Terms.{Tree}
 use Rattle.table_terms.specs.TableTerms.{IsTermOf}
 use Rattle.term_tables.specs.NetValues.{NetsValue}
-use Rattle.chart_judge.specs.Judged.{fault_in, IsJudged}
+use Rattle.log_judge.specs.Judged.{fault_in, IsJudged}
 use Rattle.term_sets.specs.Memories.{PoolValue}
 use Rattle.term_sets.specs.contracts.pool.PoolStore.TheImpl.{holds-value}
-use Rattle.chart_judge.specs.States.{JudgeValue, Fed, IsGoing, Stands}
-use Rattle.chart_judge.specs.declared.fault.JudgeFault.{JudgeFault}
+use Rattle.log_judge.specs.States.{JudgeValue, Fed, IsGoing, Stands}
+use Rattle.log_judge.specs.declared.fault.JudgeFault.{JudgeFault}
 use Rattle.msc_acceptance.specs.AcceptedCharts.{IsAcceptedTable}
 use Rattle.msc_meaning.specs.Tables.{ChartEntry, Table, chart_at}
 use Rattle.chart_judge.specs.ChartsTold.{VerdictsAreTold}

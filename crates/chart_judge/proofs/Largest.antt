@@ -18,10 +18,10 @@ use Rattle.term_sets.specs.Memories.{PoolValue}
 use Rattle.term_sets.specs.contracts.pool.PoolStore.TheImpl.{holds-value}
 use Rattle.chart_judge.specs.ChartVerdicts.{HasTerm, IsChartVerdict, IsWithinBudget}
 use Rattle.chart_judge.specs.ChartsTold.{ChartsHaveTerms}
-use Rattle.chart_judge.specs.Judged.{IsLargestOf}
+use Rattle.log_judge.specs.Judged.{IsLargestOf}
 use Rattle.chart_judge.specs.Judging.{IsJudging}
 use Rattle.chart_judge.specs.LargestWeights.{LeavesWeight, IsLargestWeight, IsLargestOn, LargestIsTold}
-use Rattle.chart_judge.specs.States.{JudgeValue, Fed}
+use Rattle.log_judge.specs.States.{JudgeValue, Fed}
 
 -- ---- a log whose last line has its end
 

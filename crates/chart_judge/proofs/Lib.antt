@@ -7,12 +7,9 @@ mod NestedTables
 mod LevelPairs
 mod FewTables
 mod ExpandedEvents
-mod TableRoom
+pub mod TableRoom
 pub mod Judging
 pub mod Known
 pub mod Verdicts
-mod Few
 mod Largest
-mod Takings
-mod LogJudging
 mod NextLabels

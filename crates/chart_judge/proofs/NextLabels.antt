@@ -19,10 +19,10 @@ use Rattle.trace_judge.specs.Tracks.{Fed, IsGoing, IsSettled, Stands, TrackValue
 use Rattle.trace_judge.specs.Verdicts.{IsOpen, IsTermVerdict}
 use Rattle.next_labels.specs.NextLabels.{AreAll, AreNextLabels, LabelListsAreOne}
 use Rattle.chart_judge.specs.ChartsTold.{VerdictsAreTold}
-use Rattle.chart_judge.specs.Ends.{HasEnded}
+use Rattle.log_judge.specs.Ends.{HasEnded}
 use Rattle.chart_judge.specs.Judging.{IsJudging}
 use Rattle.chart_judge.specs.NextLabels.{AreBeside, BeginningsAreTold, IsNextOn, IsTermNext}
-use Rattle.chart_judge.specs.States as judge
+use Rattle.log_judge.specs.States as judge
 use Rattle.chart_judge.specs.declared.next.Next.{Next}
 use Rattle.chart_judge.proofs.Verdicts.{through}
 

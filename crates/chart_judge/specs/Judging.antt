@@ -11,7 +11,7 @@ use Rattle.chart_term.specs.Terms.{Tree}
 use Rattle.term_tables.specs.NetValues.{NetsValue}
 use Rattle.term_sets.specs.contracts.pool.PoolStore.TheImpl.{holds-value}
 use Rattle.term_sets.specs.Memories.{PoolValue}
-use Rattle.chart_judge.specs.States.{JudgeValue, Fed}
+use Rattle.log_judge.specs.States.{JudgeValue, Fed}
 use Rattle.chart_judge.specs.ChartVerdicts.{HasTerm, IsChartVerdict}
 
 -- so many bytes were fed, and no more than a log may have

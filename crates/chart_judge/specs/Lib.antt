@@ -3,9 +3,4 @@ pub mod ChartBudgets
 pub mod NextLabels
 pub mod ChartsTold
 pub mod Judging
-pub mod Judged
 pub mod LargestWeights
-pub mod Taking
-pub mod States
-pub mod Ends
-pub mod Faults

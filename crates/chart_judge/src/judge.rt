@@ -7,13 +7,13 @@ ghost use Rattle.msc_acceptance.specs.AcceptedCharts.{IsAcceptedTable};
 ghost use Rattle.msc_base.specs.declared.limits.TheConstants.Limits.{BUDGET_MOST};
 ghost use Rattle.msc_meaning.specs.Tables.{ChartEntry, Table, chart_at};
 ghost use Rattle.msc_meaning.specs.Views.{table_view};
-ghost use Rattle.chart_judge.specs.Judged.{IsJudgeFault, fault_in};
+ghost use Rattle.log_judge.specs.Judged.{IsJudgeFault, fault_in};
 ghost use Rattle.chart_judge.specs.LargestWeights.{IsLargestOn};
 
 use crate::laws::{charts_have_terms, verdicts_are_told};
 use crate::term::term_of;
-use crate::{Judge, JudgeFault};
 use event_log::LogForm;
+use log_judge::{Judge, JudgeFault};
 use msc_acceptance::Accepted;
 use msc_base::{NoMemory, Verdict};
 use std::alloc::Global;
@@ -30,7 +30,7 @@ impl Model for ChartJudge {
     ghost use Rattle.std.specs.Coded.{codes};
     ghost use Rattle.chart_term.specs.Codes.{coded_tree};
     ghost use Rattle.term_sets.specs.Memories.{PoolValue};
-    ghost use Rattle.chart_judge.specs.States.{JudgeValue};
+    ghost use Rattle.log_judge.specs.States.{JudgeValue};
 
     ghost Value = { JudgeValue PoolValue };
 

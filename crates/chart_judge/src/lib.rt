@@ -3,16 +3,11 @@
 //! `specs/` says which term a chart has, what verdict a log has by a chart, and what a judge says of the bytes that it was fed.
 #![tactic(auto)]
 
-mod fault;
 mod judge;
 pub mod laws;
-mod log_judge;
 mod next;
-mod numbers;
-mod taking;
 mod term;
 
-pub use fault::JudgeFault;
 pub use judge::ChartJudge;
-pub use log_judge::Judge;
 pub use next::Next;
+pub use term::term_of;

@@ -1,10 +1,10 @@
 //! What may come next in a log: the judge of a chart asked for the labels with which the log may go on.
 
 ghost use Rattle.std.specs.Prelude.{◌≡◌, ◌++◌, ◌∷◌, [], ℕ, List, false, Err, IfOk, IfErr, IfSome, MatchOption};
-ghost use Rattle.chart_judge.specs.Judged.{IsJudgeFault};
+ghost use Rattle.log_judge.specs.Judged.{IsJudgeFault};
 ghost use Rattle.chart_judge.specs.Judging.{IsJudging};
 ghost use Rattle.chart_judge.specs.NextLabels.{IsNextOn, IsTermNext};
-ghost use Rattle.chart_judge.specs.Ends.{HasEnded};
+ghost use Rattle.log_judge.specs.Ends.{HasEnded};
 ghost use Rattle.chart_term.specs.Terms.{Tree};
 ghost use Rattle.event_log.specs.declared.event.LogForm.{LogForm as Form};
 ghost use Rattle.line_events.specs.declared.event.LineEvent.{LineEvent};
@@ -16,9 +16,9 @@ ghost use Rattle.term_tables.specs.NetValues.{NetsValue};
 ghost use Rattle.trace_judge.specs.Logs.{BeginsTermRun, labels_of};
 ghost use Rattle.trace_judge.specs.Tracks.{Fed, IfHeld};
 
+use crate::ChartJudge;
 use crate::laws::{beginnings_are_told, verdicts_are_told};
-use crate::log_judge::Ended;
-use crate::{ChartJudge, JudgeFault};
+use log_judge::{Ended, JudgeFault};
 use msc_base::{LabelList, NoMemory, Verdict};
 use next_labels::laws::label_lists_are_one;
 use next_labels::next_labels;

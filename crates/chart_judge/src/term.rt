@@ -1,4 +1,4 @@
-//! The term of a chart of an accepted document: for `judge`.
+//! The term of a chart of an accepted document: for `judge`, and for the judge of sessions.
 
 ghost use Rattle.std.specs.Prelude.{◌≡◌, IfOk};
 ghost use Rattle.msc_meaning.specs.Views.{table_view};
@@ -11,11 +11,7 @@ use std::alloc::Global;
 use table_terms::{ChartTerm, chart_of};
 
 /// The term of the chart of that name, and its tables. It fails only for want of memory.
-pub(crate) fn term_of(
-    alloc: Global,
-    accepted: &Accepted,
-    name: &[u8],
-) -> Result<ChartTerm, NoMemory>
+pub fn term_of(alloc: Global, accepted: &Accepted, name: &[u8]) -> Result<ChartTerm, NoMemory>
     requires graphs { HasSoundGraphs (table_view accepted.now) name.now }
     requires room { HasRoom (table_view accepted.now) name.now }
     ensures { IfOk result (λ made. IsTermOf (table_view accepted.now) name.now made.nets made.term) }

@@ -1,7 +1,7 @@
 //! A judge of a log in pieces, by the empty term.
-use chart_judge::{Judge, JudgeFault};
 use chart_term::Term;
 use event_log::{LogFault, LogForm};
+use log_judge::{Judge, JudgeFault};
 use msc_base::Verdict;
 use std::alloc::Global;
 use std::test::Fail;

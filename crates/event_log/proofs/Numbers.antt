@@ -1,17 +1,22 @@
--- Events that wait, with their numbers.
-use Rattle.std.specs.Prelude.{◌≡◌, ◌++◌, List, Option, Some, None, IfSome, option_to_list}
-use Rattle.std.proofs.Common.{ap, ◌∙◌, subst}
+-- Entries that wait, with their numbers.
+use Rattle.std.specs.Prelude.{◌≡◌, ◌++◌, ◌∷◌, [], List, Option, Some, None, IfSome, All, map, length, option_to_list}
+use Rattle.std.proofs.Common.{ap, ◌∙◌, subst, arith, drop, refl}
 use Rattle.std.proofs.lemmas.List.{map-append}
 use Rattle.std.proofs.lemmas.List.Elements.{All-head}
-use Rattle.label_table.specs.Labels.{label_number}
-use Rattle.event_log.specs.declared.numbering.NumberedEvent.{NumberedEvent}
-use Rattle.msc_base.specs.declared.label.Label.{Label}
-use Rattle.event_log.specs.States.{events_of, AreNumbered}
 
--- one less at the front: the events without their numbers, and the number of the one that goes
-pub events_behind : (o : Option NumberedEvent) (w v : List NumberedEvent) → w ≡ option_to_list o ++ v → events_of w ≡ events_of (option_to_list o) ++ events_of v
-events_behind o w v is = ap events_of is ∙ map-append (λ (x : NumberedEvent). x.event) (option_to_list o) v
+-- one less at the front: the events without their numbers, and the numbers of the one that goes
+pub events_behind : {Q E : Type 0} (event_of : Q → E) (o : Option Q) (w v : List Q) → w ≡ option_to_list o ++ v → map event_of w ≡ map event_of (option_to_list o) ++ map event_of v
+events_behind event_of o w v is = ap (λ es. map event_of es) is ∙ map-append event_of (option_to_list o) v
 
-pub front_numbered : (labels : List Label) (o : Option NumberedEvent) (w v : List NumberedEvent) → w ≡ option_to_list o ++ v → AreNumbered labels w → IfSome o (λ e. e.number ≡ label_number labels e.event.label)
-front_numbered labels None w v is are = tt
-front_numbered labels (Some e) w v is are = All-head (λ (x : NumberedEvent). x.number ≡ label_number labels x.event.label) e v (subst (λ (es : List NumberedEvent). AreNumbered labels es) is are)
+pub front_numbered : {Q : Type 0} (P : Q → Type 0) (o : Option Q) (w v : List Q) → w ≡ option_to_list o ++ v → All P w → IfSome o P
+front_numbered P None w v is are = tt
+front_numbered P (Some e) w v is are = All-head P e v (subst (λ es. All P es) is are)
+
+empty_front : {Q : Type 0} (w : List Q) → w ≡ drop 1 w → w ≡ []
+empty_front [] h = refl
+empty_front (x ∷ w) h = absurd (omega (arith, ap length h))
+
+-- where no entry was there, none waits
+pub nothing_waits : {Q : Type 0} (o : Option Q) (w v : List Q) → o ≡ None → w ≡ option_to_list o ++ v → v ≡ drop 1 w → w ≡ []
+nothing_waits None w v e is rest = empty_front w (is ∙ rest)
+nothing_waits (Some x) w v e is rest = cc

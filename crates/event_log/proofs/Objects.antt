@@ -1,5 +1,5 @@
 -- What a JSON value says.
-use Rattle.std.proofs.Common.{◌≡◌, ◌∙◌, ◌↔◌, ap, refl, sym, subst, true, false, Bool, IsTrue, List, ℕ, [], ◌∷◌, Option, Some, None, Result, Ok, Err, IfOk, codes, string_bytes, map, ◌&&◌, String, IsUtf8, All}
+use Rattle.std.proofs.Common.{◌≡◌, ◌∙◌, ◌↔◌, ap, refl, sym, subst, true, false, Bool, IsTrue, List, ℕ, [], ◌∷◌, Option, Some, None, Result, Ok, Err, IfOk, MatchOption, codes, string_bytes, map, ◌&&◌, String, IsUtf8, All}
 use Rattle.std.specs.declared.alloc.Global.{Global}
 use Rattle.std.specs.List.{list_all}
 use Rattle.std.specs.Str.{bytes_eq}
@@ -19,7 +19,8 @@ use Rattle.msc_events.specs.LogEvents.{ReadsText}
 use Rattle.event_log.specs.Meanings.{SaysBy, LineSays}
 use Rattle.msc_tokens.specs.Spelling.{IsBlank}
 use Rattle.msc_base.specs.Only.{Never, Only}
-use Rattle.event_log.specs.Objects.{Spelled, Written, IsAllowed, all_members, HasMembers, IsVersionObject, Said, kind_of, IsEndBy, IsFarOf, IsSaid, IsEventObject}
+use Rattle.event_log.specs.Objects.{Spelled, Written, IsAllowed, all_members, HasMembers, IsVersionObject, Said, kind_of, IsEndBy, IsFarOf, IsSaid, HasEvent, IsEventObject, is_event_member}
+use Rattle.event_log.specs.Rules.{Rules}
 use Rattle.event_log.specs.declared.event.LogForm.TheVariants.{Json}
 use Rattle.event_log.specs.declared.event.Version.{Version}
 use Rattle.event_log.specs.declared.line.Line.{Line}
@@ -96,6 +97,14 @@ only_said version said kind at text far k allowed name a t f = record {
       (t.alone l.text (text_said version said kind l k h)) (one_far kind text said.far far l.far f (far_said version said kind text l k t h));
 }
 
+-- an object whose members are those of an event alone is the event that they say
+pub only_event : {T : Type 0} (version : Version) (d : Data) (answer : Result (Option Label) T) → HasMembers is_event_member d
+    → IfOk answer (λ found. MatchOption found (Never (HasEvent version d)) (λ label. Only (HasEvent version d) label))
+    → IfOk answer (λ found. MatchOption found (Never (IsEventObject version d)) (λ label. Only (IsEventObject version d) label))
+only_event version d (Ok None) members h = λ label is. h label is.event
+only_event version d (Ok (Some label)) members h = record { holds = record { only = members; event = h.holds }; alone = λ other is. h.alone other is.event }
+only_event version d (Err e) members h = tt
+
 only_written : {A : Type 0} (P : Data → A → Type 0) (line : List ℕ) (d : Data) (x : A) → IsUtf8 line → read line ≡ Some d → Only (P d) x → Only (Written P line) x
 only_written P line d x utf8 r o = record {
   holds = record { utf8 = utf8; value = d; reads = r; is = o.holds };
@@ -105,22 +114,22 @@ only_written P line d x utf8 r o = record {
 never_written : {A : Type 0} (P : Data → A → Type 0) (line : List ℕ) (d : Data) → read line ≡ Some d → Never (P d) → Never (Written P line)
 never_written P line d r n = λ y p. n y (subst (λ v. P v y) (same_Some p.value d (sym p.reads ∙ r)) p.is)
 
-says_value : (version : Version) (number : ℕ) (line : List ℕ) (d : Data) (m : Line) → (All IsBlank line → ⊥) → IsUtf8 line → read line ≡ Some d
-    → SaysBy (IsVersionObject d) (IsEventObject version d) number m → LineSays Json version number line m
-says_value version number line d Blank full utf8 r h = absurd h
-says_value version number line d (VersionLine stated) full utf8 r h = (full, (h.0, only_written IsVersionObject line d stated utf8 r h.1))
-says_value version number line d (Event label) full utf8 r h = (full, (λ first. never_written IsVersionObject line d r (h.0 first), only_written (IsEventObject version) line d label utf8 r h.1))
-says_value version number line d NoEvent full utf8 r h = (full, (λ first. never_written IsVersionObject line d r (h.0 first), never_written (IsEventObject version) line d r h.1))
+says_value : {S E K : Type 0} (r : Rules S E K) (version : Version) (number : ℕ) (line : List ℕ) (d : Data) (m : Line S) → (All IsBlank line → ⊥) → IsUtf8 line → read line ≡ Some d
+    → SaysBy (IsVersionObject d) (r.value_is version d) number m → LineSays r Json version number line m
+says_value r version number line d Blank full utf8 e h = absurd h
+says_value r version number line d (VersionLine stated) full utf8 e h = (full, (h.0, only_written IsVersionObject line d stated utf8 e h.1))
+says_value r version number line d (Event event) full utf8 e h = (full, (λ first. never_written IsVersionObject line d e (h.0 first), only_written (r.value_is version) line d event utf8 e h.1))
+says_value r version number line d NoEvent full utf8 e h = (full, (λ first. never_written IsVersionObject line d e (h.0 first), never_written (r.value_is version) line d e h.1))
 
 -- what the value says is what the line says
-pub says_written : (version : Version) (number : ℕ) (line : List ℕ) (d : Data) (answer : Result Line NoMemory) → (All IsBlank line → ⊥) → IsUtf8 line → read line ≡ Some d
-    → IfOk answer (λ m. SaysBy (IsVersionObject d) (IsEventObject version d) number m) → IfOk answer (λ m. LineSays Json version number line m)
-says_written version number line d (Ok m) full utf8 r h = says_value version number line d m full utf8 r h
-says_written version number line d (Err e) full utf8 r h = tt
+pub says_written : {S E K : Type 0} (r : Rules S E K) (version : Version) (number : ℕ) (line : List ℕ) (d : Data) (answer : Result (Line S) NoMemory) → (All IsBlank line → ⊥) → IsUtf8 line → read line ≡ Some d
+    → IfOk answer (λ m. SaysBy (IsVersionObject d) (r.value_is version d) number m) → IfOk answer (λ m. LineSays r Json version number line m)
+says_written r version number line d (Ok m) full utf8 e h = says_value r version number line d m full utf8 e h
+says_written r version number line d (Err x) full utf8 e h = tt
 
 no_value : (line : List ℕ) (d : Data) → (IsUtf8 line → read line ≡ None) → IsUtf8 line → read line ≡ Some d → ⊥
 no_value line d none utf8 r = none-some d (sym (sym r ∙ none utf8))
 
 -- bytes that are no value say nothing
-pub says_unwritten : (version : Version) (number : ℕ) (line : List ℕ) → (All IsBlank line → ⊥) → (IsUtf8 line → read line ≡ None) → LineSays Json version number line NoEvent
-says_unwritten version number line full none = (full, (λ first. λ y p. no_value line p.value none p.utf8 p.reads, λ y p. no_value line p.value none p.utf8 p.reads))
+pub says_unwritten : {S E K : Type 0} (r : Rules S E K) (version : Version) (number : ℕ) (line : List ℕ) → (All IsBlank line → ⊥) → (IsUtf8 line → read line ≡ None) → LineSays r Json version number line NoEvent
+says_unwritten r version number line full none = (full, (λ first. λ y p. no_value line p.value none p.utf8 p.reads, λ y p. no_value line p.value none p.utf8 p.reads))

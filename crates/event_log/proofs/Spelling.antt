@@ -15,9 +15,7 @@ use Rattle.token_grammar.specs.declared.fault.ParseFault.TheVariants as fault
 use Rattle.event_log.specs.Meanings.{StatesVersion, IsEventOf, SaysBy, LineSays}
 use Rattle.msc_base.specs.Only.{Never, Only}
 use Rattle.event_log.specs.Objects.{Spelled, IsAllowed}
-use Rattle.event_log.specs.Faults.{IsLogFault}
-use Rattle.event_log.specs.States.{LogState, Refuses, RefusesLine}
-use Rattle.event_log.specs.declared.event.LogFault.{LogFault}
+use Rattle.event_log.specs.Rules.{Rules}
 use Rattle.event_log.specs.declared.event.LogForm.{LogForm}
 use Rattle.event_log.specs.declared.event.LogForm.TheVariants.{Lines}
 use Rattle.event_log.specs.declared.event.Version.{Version}
@@ -36,32 +34,27 @@ never_spelled P line tokens s n = λ y p. n y (subst (λ ts. P (texts ts) y) (s.
 not_empty : (line : List ℕ) (tokens : List Token) → Only (Spells line) tokens → 0 < length tokens → Spells line [] → ⊥
 not_empty line tokens s some h = omega (arith, ap length (s.alone [] h))
 
-says_one : (version : Version) (number : ℕ) (line : List ℕ) (tokens : List Token) (m : Line) → Only (Spells line) tokens → 0 < length tokens
-    → SaysBy (StatesVersion (texts tokens)) (IsEventOf version (texts tokens)) number m → LineSays Lines version number line m
-says_one version number line tokens Blank s some h = absurd h
-says_one version number line tokens (VersionLine stated) s some h = (not_empty line tokens s some, (h.0, only_spelled StatesVersion line tokens stated s h.1))
-says_one version number line tokens (Event label) s some h = (not_empty line tokens s some, (λ first. never_spelled StatesVersion line tokens s (h.0 first), only_spelled (IsEventOf version) line tokens label s h.1))
-says_one version number line tokens NoEvent s some h = (not_empty line tokens s some, (λ first. never_spelled StatesVersion line tokens s (h.0 first), never_spelled (IsEventOf version) line tokens s h.1))
+says_one : {S E K : Type 0} (r : Rules S E K) (version : Version) (number : ℕ) (line : List ℕ) (tokens : List Token) (m : Line S) → Only (Spells line) tokens → 0 < length tokens
+    → SaysBy (StatesVersion (texts tokens)) (r.tokens_are version (texts tokens)) number m → LineSays r Lines version number line m
+says_one r version number line tokens Blank s some h = absurd h
+says_one r version number line tokens (VersionLine stated) s some h = (not_empty line tokens s some, (h.0, only_spelled StatesVersion line tokens stated s h.1))
+says_one r version number line tokens (Event event) s some h = (not_empty line tokens s some, (λ first. never_spelled StatesVersion line tokens s (h.0 first), only_spelled (r.tokens_are version) line tokens event s h.1))
+says_one r version number line tokens NoEvent s some h = (not_empty line tokens s some, (λ first. never_spelled StatesVersion line tokens s (h.0 first), never_spelled (r.tokens_are version) line tokens s h.1))
 
 -- what the tokens say is what the line says
-pub says_spelled : (version : Version) (number : ℕ) (line : List ℕ) (tokens : List Token) (answer : Result Line NoMemory) → Only (Spells line) tokens → 0 < length tokens
-    → IfOk answer (λ m. SaysBy (StatesVersion (texts tokens)) (IsEventOf version (texts tokens)) number m) → IfOk answer (λ m. LineSays Lines version number line m)
-says_spelled version number line tokens (Ok m) s some h = says_one version number line tokens m s some h
-says_spelled version number line tokens (Err e) s some h = tt
+pub says_spelled : {S E K : Type 0} (r : Rules S E K) (version : Version) (number : ℕ) (line : List ℕ) (tokens : List Token) (answer : Result (Line S) NoMemory) → Only (Spells line) tokens → 0 < length tokens
+    → IfOk answer (λ m. SaysBy (StatesVersion (texts tokens)) (r.tokens_are version (texts tokens)) number m) → IfOk answer (λ m. LineSays r Lines version number line m)
+says_spelled r version number line tokens (Ok m) s some h = says_one r version number line tokens m s some h
+says_spelled r version number line tokens (Err e) s some h = tt
 
 -- bytes that have no reading as tokens say nothing
-pub says_unspelled : (version : Version) (number : ℕ) (line : List ℕ) → Never (Spells line) → LineSays Lines version number line NoEvent
-says_unspelled version number line h = (λ s. h [] s, (λ first. λ y p. h p.tokens p.spells, λ y p. h p.tokens p.spells))
+pub says_unspelled : {S E K : Type 0} (r : Rules S E K) (version : Version) (number : ℕ) (line : List ℕ) → Never (Spells line) → LineSays r Lines version number line NoEvent
+says_unspelled r version number line h = (λ s. h [] s, (λ first. λ y p. h p.tokens p.spells, λ y p. h p.tokens p.spells))
 
 -- a fault of the reading that is no want of memory is a refusal
 pub refusal : (x : ParseFault) → (x ≡ fault.NoMemory → ⊥) → IsRefusal x
 refusal fault.NoMemory h = h refl
 refusal x h = tt
-
-pub refuses_line : {T : Type 0} (s : LogState) (m : Line) (answer : Result T LogFault) → LineSays s.form s.version s.number s.line m
-    → IfErr answer (λ x. IsLogFault x → Refuses s m x) → IfErr answer (λ x. IsLogFault x → RefusesLine s x)
-refuses_line s m (Ok t) says h = tt
-refuses_line s m (Err x) says h = λ is. record { meaning = m; says = says; refuses = h is }
 
 -- what the tokens are is what the bytes are
 pub spelled_answer : {A E : Type 0} (P : List (List ℕ) → A → Type 0) (bytes : List ℕ) (tokens : List Token) (answer : Result (Option A) E) → Only (Spells bytes) tokens
@@ -90,9 +83,9 @@ pub barred_event : (version : Version) (tokens : List (List ℕ)) (label : Label
 barred_event version tokens label only barred = λ y p. barred (subst (λ (l : Label). IsAllowed version l.kind) (only y p.reads) p.allowed)
 
 -- what a line says in the form that is meant
-pub says_in : (form meant : LogForm) (version : Version) (number : ℕ) (line : List ℕ) (answer : Result Line NoMemory) → form ≡ meant
-    → IfOk answer (λ m. LineSays meant version number line m) → IfOk answer (λ m. LineSays form version number line m)
-says_in form meant version number line answer is h = subst (λ f. IfOk answer (λ m. LineSays f version number line m)) (sym is) h
+pub says_in : {S E K : Type 0} (r : Rules S E K) (form meant : LogForm) (version : Version) (number : ℕ) (line : List ℕ) (answer : Result (Line S) NoMemory) → form ≡ meant
+    → IfOk answer (λ m. LineSays r meant version number line m) → IfOk answer (λ m. LineSays r form version number line m)
+says_in r form meant version number line answer is h = subst (λ f. IfOk answer (λ m. LineSays r f version number line m)) (sym is) h
 
 pub not_both : (b : Bool) → IsTrue b → b ≡ false → ⊥
 not_both b here gone = true≢false (sym here ∙ gone)

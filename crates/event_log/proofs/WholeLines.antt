@@ -1,18 +1,19 @@
 -- Lines that lie whole in a piece.
-use Rattle.std.proofs.Common.{Result, Ok, Err, IfErr, OnOk, OnErr, ◌≡◌, ◌≢◌, ◌<◌, ◌≤◌, ◌+◌, ◌++◌, List, ℕ, length, [], ◌∷◌, All, arith, sym, refl, ap, ◌∙◌, subst, take, append_assoc, Option, Some, None, MatchOption, zero, suc, slice_index, false}
+use Rattle.std.proofs.Common.{inl, inr, ◌⊎◌, Result, Ok, Err, IfErr, OnOk, OnErr, ◌≡◌, ◌≢◌, ◌<◌, ◌≤◌, ◌+◌, ◌++◌, List, ℕ, length, [], ◌∷◌, All, arith, sym, refl, ap, ◌∙◌, subst, take, append_assoc, Option, Some, None, MatchOption, zero, suc, slice_index, false}
 use Rattle.std.proofs.lemmas.Bool.Decides.{Decides-eqb}
 use Rattle.std.proofs.lemmas.List.Elements.{All-nil, All-cons, All-from_get_or}
 use Rattle.memchr.specs.Find.{IsFirstByte, is_byte}
 use Rattle.msc_base.specs.declared.limits.TheConstants.Limits.{LINE_BYTES, LOG_BYTES}
 use Rattle.event_log.specs.Faults.{IsLogFault}
 use Rattle.event_log.specs.Meanings.{LineSays}
-use Rattle.event_log.specs.States.{LogState, Refuses, TakesLine, RefusesLine, Grows, IsTooLong, counted, whole, IsGoing, HoldsAt}
+use Rattle.event_log.specs.RuledStates.{ReaderState, Refuses, TakesLine, RefusesLine, Grows, IsTooLong, counted, whole, IsGoing, HoldsAt}
 use Rattle.event_log.specs.declared.event.LogFault.{LogFault}
 use Rattle.event_log.specs.declared.event.LogFault.TheVariants as fault
 use Rattle.event_log.specs.declared.event.LogForm.{LogForm}
 use Rattle.event_log.specs.declared.line.Line.{Line}
 use Rattle.event_log.specs.declared.line.Line.TheVariants.{Blank, VersionLine, Event, NoEvent}
 use Rattle.event_log.proofs.Feeding.{append_fails, going_grows, line_going, line_fails}
+use Rattle.event_log.specs.Rules.{Rules}
 
 taken_free : (n : ℕ) (bytes : List ℕ) → n ≤ length bytes → ((i : ℕ) → i < n → slice_index bytes i ≢ 10) → All (λ b. b ≢ 10) (take n bytes)
 taken_free zero bytes le free = All-nil (λ b. b ≢ 10)
@@ -29,55 +30,61 @@ first_feed bytes (Some n) first = (
   (Decides-eqb (slice_index bytes n) 10).0 first.1,
 )
 
--- with a fault the state holds no more than events of a form
-holds_alike : (x : LogFault) (form : LogForm) (b : List ℕ) (n : ℕ) (s t : LogState) → t.form ≡ s.form → t.waiting ≡ s.waiting → HoldsAt (Some x) false form b n s → HoldsAt (Some x) false form b n t
-holds_alike fault.NoMemory form b n s t f w h = record { form_is = f ∙ h.form_is; stage = h.stage; reaches = h.reaches; hands = rw w h.hands }
-holds_alike x form b n s t f w h = record { form_is = f ∙ h.form_is; events = h.events; log = h.log; hands = rw w h.hands }
+module _ {S E K : Type 0} (rules : Rules S E K) where
+  -- with a fault the state holds no more than events of a form
+  holds_alike : (x : LogFault) (form : LogForm) (b : List ℕ) (n : ℕ) (s t : ReaderState E K) → t.form ≡ s.form → t.waiting ≡ s.waiting → HoldsAt rules (Some x) false form b n s → HoldsAt rules (Some x) false form b n t
+  holds_alike fault.NoMemory form b n s t f w h = record { form_is = f ∙ h.form_is; stage = h.stage; reaches = h.reaches; hands = rw w h.hands }
+  holds_alike x form b n s t f w h = record { form_is = f ∙ h.form_is; events = h.events; log = h.log; hands = rw w h.hands }
 
--- the state with this line taken
-abbrev grown : LogState → List ℕ → LogState
-grown s f = record s { line = f; count = s.count + length f }
+  -- the state with this line taken
+  abbrev grown : ReaderState E K → List ℕ → ReaderState E K
+  grown s f = record s { line = f; count = s.count + length f }
 
-whole_grows : (s : LogState) (f : List ℕ) → s.line ≡ [] → length f ≤ LINE_BYTES → Grows s f (grown s f)
-whole_grows s f none short = record {
-  short = omega (arith, ap length none);
-  is = ap (λ (l : List ℕ). (let t : LogState = record s { line = l ++ f; count = s.count + length f } in t)) (sym none);
-}
+  whole_grows : (s : ReaderState E K) (f : List ℕ) → s.line ≡ [] → length f ≤ LINE_BYTES → Grows s f (grown s f)
+  whole_grows s f none short = record {
+    short = omega (arith, ap length none);
+    is = ap (λ (l : List ℕ). (let t : ReaderState E K = record s { line = l ++ f; count = s.count + length f } in t)) (sym none);
+  }
 
--- a whole line was taken
-pub whole_going : {T : Type 0} (s u : LogState) (f : List ℕ) (answer : Result T LogFault) → s.line ≡ [] → length f ≤ LINE_BYTES → All (λ b. b ≢ 10) f → s.count + length f < LOG_BYTES
-    → OnOk answer (TakesLine (whole s f) u) → (form : LogForm) (b : List ℕ) (n : ℕ) → IsGoing form b n s → OnOk answer (IsGoing form (b ++ (f ++ 10 ∷ [])) n u)
-whole_going s u f answer none short free room takes form b n h =
-    subst (λ bytes. OnOk answer (IsGoing form bytes n u)) (append_assoc b f (10 ∷ []))
-    (line_going (grown s f) u answer takes room form (b ++ f) n (going_grows form b f n s (grown s f) h (whole_grows s f none short) free (omega arith)))
+  -- a whole line was taken
+  pub whole_going : {T : Type 0} (s u : ReaderState E K) (f : List ℕ) (answer : Result T LogFault) → s.line ≡ [] → length f ≤ LINE_BYTES → All (λ b. b ≢ 10) f → s.count + length f < LOG_BYTES
+      → OnOk answer (TakesLine rules (whole s f) u) → (form : LogForm) (b : List ℕ) (n : ℕ) → IsGoing rules form b n s → OnOk answer (IsGoing rules form (b ++ (f ++ 10 ∷ [])) n u)
+  whole_going s u f answer none short free room takes form b n h =
+      subst (λ bytes. OnOk answer (IsGoing rules form bytes n u)) (append_assoc b f (10 ∷ []))
+      (line_going rules (grown s f) u answer takes room form (b ++ f) n (going_grows rules form b f n s (grown s f) h (whole_grows s f none short) free (omega arith)))
 
--- a whole line wasn't taken
-pub whole_fails : {T : Type 0} (s u : LogState) (f : List ℕ) (answer : Result T LogFault) → s.line ≡ [] → length f ≤ LINE_BYTES → All (λ b. b ≢ 10) f → s.count + length f < LOG_BYTES
-    → OnErr answer (u ≡ record s { count = s.count + length f + 1 }) → IfErr answer (λ x. IsLogFault x → RefusesLine (whole s f) x)
-    → (form : LogForm) (b : List ℕ) (n : ℕ) (more : List ℕ) → IsGoing form b n s → IfErr answer (λ x. HoldsAt (Some x) false form (b ++ (f ++ 10 ∷ more)) n u)
-whole_fails s u f (Ok r) none short free room same refuses form b n more h = tt
-whole_fails {T = T} s u f (Err x) none short free room same refuses form b n more h =
-    let going : IsGoing form (b ++ f) n (grown s f) = going_grows form b f n s (grown s f) h (whole_grows s f none short) free (omega arith) in
-    let there : HoldsAt (Some x) false form ((b ++ f) ++ 10 ∷ more) n (counted (grown s f)) = line_fails {T = T} (grown s f) (counted (grown s f)) (Err x) refl refuses room form (b ++ f) n more going in
-    subst (λ bytes. HoldsAt (Some x) false form bytes n u) (append_assoc b f (10 ∷ more))
-    (holds_alike x form ((b ++ f) ++ 10 ∷ more) n (counted (grown s f)) u (ap (λ (t : LogState). t.form) same) (ap (λ (t : LogState). t.waiting) same) there)
+  -- a whole line wasn't taken
+  pub whole_fails : {T : Type 0} (s u : ReaderState E K) (f : List ℕ) (answer : Result T LogFault) → s.line ≡ [] → length f ≤ LINE_BYTES → All (λ b. b ≢ 10) f → s.count + length f < LOG_BYTES
+      → OnErr answer (u ≡ record s { met = u.met; count = s.count + length f + 1 }) → IfErr answer (λ x. IsLogFault x → RefusesLine rules (whole s f) x)
+      → (form : LogForm) (b : List ℕ) (n : ℕ) (more : List ℕ) → IsGoing rules form b n s → IfErr answer (λ x. HoldsAt rules (Some x) false form (b ++ (f ++ 10 ∷ more)) n u)
+  whole_fails s u f (Ok r) none short free room same refuses form b n more h = tt
+  whole_fails {T = T} s u f (Err x) none short free room same refuses form b n more h =
+      let going : IsGoing rules form (b ++ f) n (grown s f) = going_grows rules form b f n s (grown s f) h (whole_grows s f none short) free (omega arith) in
+      let there : HoldsAt rules (Some x) false form ((b ++ f) ++ 10 ∷ more) n (counted (grown s f)) = line_fails rules {T = T} (grown s f) (counted (grown s f)) (Err x) refl refuses room form (b ++ f) n more going in
+      subst (λ bytes. HoldsAt rules (Some x) false form bytes n u) (append_assoc b f (10 ∷ more))
+      (holds_alike x form ((b ++ f) ++ 10 ∷ more) n (counted (grown s f)) u (ap (λ (t : ReaderState E K). t.form) same) (ap (λ (t : ReaderState E K). t.waiting) same) there)
 
--- a whole line that is too long wasn't taken
-pub whole_long : (s : LogState) (f : List ℕ) → s.line ≡ [] → LINE_BYTES < length f → All (λ b. b ≢ 10) f → s.count + length f < LOG_BYTES
-    → (form : LogForm) (b : List ℕ) (n : ℕ) (more : List ℕ) → IsGoing form b n s → HoldsAt (Some (fault.LongLine s.number)) false form (b ++ (f ++ 10 ∷ more)) n s
-whole_long s f none long free room form b n more h =
-    let too_long : IsTooLong s f (fault.LongLine s.number) = record { long = omega (arith, long); is = refl } in
-    append_fails {T = ℕ} s s f (Err (fault.LongLine s.number)) refl (λ is. too_long) free (omega arith) form b n (10 ∷ more) h
+  -- a whole line that is too long wasn't taken
+  pub whole_long : (s : ReaderState E K) (f : List ℕ) → s.line ≡ [] → LINE_BYTES < length f → All (λ b. b ≢ 10) f → s.count + length f < LOG_BYTES
+      → (form : LogForm) (b : List ℕ) (n : ℕ) (more : List ℕ) → IsGoing rules form b n s → HoldsAt rules (Some (fault.LongLine s.number)) false form (b ++ (f ++ 10 ∷ more)) n s
+  whole_long s f none long free room form b n more h =
+      let too_long : IsTooLong s f (fault.LongLine s.number) = record { long = omega (arith, long); is = refl } in
+      append_fails rules {T = ℕ} s s f (Err (fault.LongLine s.number)) refl (λ is. too_long) free (omega arith) form b n (10 ∷ more) h
 
-refuses_alike : (s t : LogState) (m : Line) (x : LogFault) → s.number ≡ t.number → s.read ≡ t.read → Refuses s m x → Refuses t m x
-refuses_alike s t Blank x n r h = h
-refuses_alike s t (VersionLine None) x n r h = h ∙ ap (λ (k : ℕ). fault.Version k) n
-refuses_alike s t (VersionLine (Some v)) x n r h = h
-refuses_alike s t (Event a) x n r h = (omega (arith, h.0, r), h.1 ∙ ap (λ (k : ℕ). fault.LogLimit k) n)
-refuses_alike s t NoEvent x n r h = h ∙ ap (λ (k : ℕ). fault.Syntax k) n
+  refuses_alike : (s t : ReaderState E K) (m : Line S) (x : LogFault) → s.number ≡ t.number → s.read ≡ t.read → s.met ≡ t.met → Refuses rules s m x → Refuses rules t m x
+  refuses_alike s t Blank x n d e h = h
+  refuses_alike s t (VersionLine None) x n d e h = h ∙ ap (λ (k : ℕ). fault.Version k) n
+  refuses_alike s t (VersionLine (Some v)) x n d e h = h
+  refuses_alike s t (Event a) x n d e (inl h) = inl (omega (arith, h.0, d), h.1 ∙ ap (λ (k : ℕ). fault.LogLimit k) n)
+  refuses_alike s t (Event a) x n d e (inr h) = inr (
+    omega (arith, h.0, d),
+    (λ room. h.1 (subst (λ (met : K). rules.has_room met a) (sym e) room)),
+    h.2 ∙ ap (λ (k : ℕ). fault.TooManySessions k) n,
+  )
+  refuses_alike s t NoEvent x n d e h = h ∙ ap (λ (k : ℕ). fault.Syntax k) n
 
--- a line that is refused where the number and the events are the same
-pub refuses_there : {T : Type 0} (s t : LogState) (m : Line) (answer : Result T LogFault) → s.number ≡ t.number → s.read ≡ t.read → LineSays t.form t.version t.number t.line m
-    → IfErr answer (λ x. IsLogFault x → Refuses s m x) → IfErr answer (λ x. IsLogFault x → RefusesLine t x)
-refuses_there s t m (Ok r) n e says h = tt
-refuses_there s t m (Err x) n e says h = λ is. record { meaning = m; says = says; refuses = refuses_alike s t m x n e (h is) }
+  -- a line that is refused where the number and the events are the same
+  pub refuses_there : {T : Type 0} (s t : ReaderState E K) (m : Line S) (answer : Result T LogFault) → s.number ≡ t.number → s.read ≡ t.read → s.met ≡ t.met → LineSays rules t.form t.version t.number t.line m
+      → IfErr answer (λ x. IsLogFault x → Refuses rules s m x) → IfErr answer (λ x. IsLogFault x → RefusesLine rules t x)
+  refuses_there s t m (Ok r) n d e says h = tt
+  refuses_there s t m (Err x) n d e says h = λ is. record { meaning = m; says = says; refuses = refuses_alike s t m x n d e (h is) }

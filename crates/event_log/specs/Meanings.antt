@@ -5,7 +5,8 @@ use Rattle.msc_base.specs.declared.label.Label.{Label}
 use Rattle.msc_base.specs.Only.{Only, Never}
 use Rattle.msc_tokens.specs.Spelling.{IsBlank, Spells}
 use Rattle.msc_events.specs.LogEvents.{ReadsEvent}
-use Rattle.event_log.specs.Objects.{Spelled, Written, IsAllowed, IsVersionObject, IsEventObject}
+use Rattle.event_log.specs.Objects.{Spelled, Written, IsAllowed, IsVersionObject}
+use Rattle.event_log.specs.Rules.{Rules}
 use Rattle.event_log.specs.declared.event.LogForm.{LogForm}
 use Rattle.event_log.specs.declared.event.LogForm.TheVariants.{Lines, Json}
 use Rattle.event_log.specs.declared.event.Version.{Version}
@@ -44,20 +45,20 @@ IsVersionLine Lines line stated = Spelled StatesVersion line stated
 IsVersionLine Json line stated = Written IsVersionObject line stated
 
 -- the line is this event
-abbrev pub IsEventLine : LogForm → Version → List ℕ → Label → Type 0
-IsEventLine Lines version line label = Spelled (IsEventOf version) line label
-IsEventLine Json version line label = Written (IsEventObject version) line label
+abbrev pub IsEventLine : {S E K : Type 0} → Rules S E K → LogForm → Version → List ℕ → S → Type 0
+IsEventLine r Lines version line event = Spelled (r.tokens_are version) line event
+IsEventLine r Json version line event = Written (r.value_is version) line event
 
 -- what a line says by the versions that it states and the events that it is: the first states a version, else it is an event, else bad
-abbrev pub SaysBy : (Option Version → Type 0) → (Label → Type 0) → ℕ → Line → Type 0
+abbrev pub SaysBy : {S : Type 0} → (Option Version → Type 0) → (S → Type 0) → ℕ → Line S → Type 0
 SaysBy states is number Blank = ⊥
 SaysBy states is number (VersionLine stated) = (number ≡ 1) × Only states stated
-SaysBy states is number (Event label) = (number ≡ 1 → Never states) × Only is label
+SaysBy states is number (Event event) = (number ≡ 1 → Never states) × Only is event
 SaysBy states is number NoEvent = (number ≡ 1 → Never states) × Never is
 
 -- what the line says, which has this number, in a log of this version
-abbrev pub LineSays : LogForm → Version → ℕ → List ℕ → Line → Type 0
-LineSays form version number line Blank = IsBlankLine form line
-LineSays form version number line (VersionLine stated) = (IsBlankLine form line → ⊥) × SaysBy (IsVersionLine form line) (IsEventLine form version line) number (VersionLine stated)
-LineSays form version number line (Event label) = (IsBlankLine form line → ⊥) × SaysBy (IsVersionLine form line) (IsEventLine form version line) number (Event label)
-LineSays form version number line NoEvent = (IsBlankLine form line → ⊥) × SaysBy (IsVersionLine form line) (IsEventLine form version line) number NoEvent
+abbrev pub LineSays : {S E K : Type 0} → Rules S E K → LogForm → Version → ℕ → List ℕ → Line S → Type 0
+LineSays r form version number line Blank = IsBlankLine form line
+LineSays r form version number line (VersionLine stated) = (IsBlankLine form line → ⊥) × SaysBy (IsVersionLine form line) (IsEventLine r form version line) number (VersionLine stated)
+LineSays r form version number line (Event event) = (IsBlankLine form line → ⊥) × SaysBy (IsVersionLine form line) (IsEventLine r form version line) number (Event event)
+LineSays r form version number line NoEvent = (IsBlankLine form line → ⊥) × SaysBy (IsVersionLine form line) (IsEventLine r form version line) number NoEvent

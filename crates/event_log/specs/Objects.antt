@@ -78,9 +78,8 @@ abbrev pub text_or_none : Option Data → Option (Option (List ℕ))
 text_or_none None = Some None
 text_or_none (Some d) = option_and_then (λ s. Some (Some s)) (as_str d)
 
--- the value is an object with these members and no other; of a name that stands there twice the last counts
+-- the value is an object whose members of an event are these texts; of a name that stands there twice the last counts
 pub record SaysTexts (d : Data) (said : Said) : Type 0 where
-  pub only : HasMembers is_event_member d
   pub at_is : text_at (codes "at") d ≡ Some said.at
   pub kind_is : text_at (codes "kind") d ≡ Some said.kind
   pub text_is : text_at (codes "text") d ≡ Some said.text
@@ -139,8 +138,13 @@ pub record IsSaid (version : Version) (said : Said) (label : Label) : Type 0 whe
   pub text_is : Spelled (ReadsText label.kind) said.text label.text
   pub far_is : IsFarOf label.kind label.text said.far label.far
 
--- the value is an object that is this event
-pub record IsEventObject (version : Version) (d : Data) (label : Label) : Type 0 where
+-- the members of an event are those of this one
+pub record HasEvent (version : Version) (d : Data) (label : Label) : Type 0 where
   pub said : Said
   pub texts_are : SaysTexts d said
   pub is : IsSaid version said label
+
+-- the value is an object that is this event, with no other member
+pub record IsEventObject (version : Version) (d : Data) (label : Label) : Type 0 where
+  pub only : HasMembers is_event_member d
+  pub event : HasEvent version d label

@@ -33,6 +33,8 @@ pub enum LogFault {
     LongLine(u64),
     /// The log has more than 67,108,864 bytes or more than 1,000,000 events.
     LogLimit(u64),
+    /// The log has more keys of sessions than 1,000.
+    TooManySessions(u64),
     /// The first line states another version than 1 and 2.
     Version(u64),
     /// Want of memory.
@@ -57,6 +59,7 @@ impl LogFault {
             LogFault::Syntax(_) => "syntax",
             LogFault::LongLine(_) => "long line",
             LogFault::LogLimit(_) => "limit",
+            LogFault::TooManySessions(_) => "sessions",
             LogFault::Version(_) => "version",
             LogFault::NoMemory => unreachable!(),
         }

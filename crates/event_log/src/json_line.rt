@@ -1,4 +1,4 @@
-//! What a line in JSON says: a version, an event, nothing, or neither. For `line` alone.
+//! What a line in JSON says: a version, an event, nothing, or neither: for `line` and `log_events`.
 
 ghost use Rattle.std.specs.Prelude.{◌≡◌, ◌<◌, ◌^◌, ◌↔◌, All, IsTrue, false, IfOk, MatchOption, Some, None, codes, option_map, string_bytes, IsUtf8};
 ghost use Rattle.std.specs.List.{list_all};
@@ -9,12 +9,13 @@ ghost use Rattle.serde_json.specs.Read.{read};
 ghost use Rattle.event_log.specs.Meanings.{SaysBy, LineSays};
 ghost use Rattle.msc_tokens.specs.Spelling.{IsBlank};
 ghost use Rattle.msc_base.specs.Only.{Never, Only};
-ghost use Rattle.event_log.specs.Objects.{IsVersionObject, IsEventObject, HasMembers, is_version_member, is_event_member, text_at, text_or_none, version_of_number};
+ghost use Rattle.event_log.specs.Objects.{IsVersionObject, IsEventObject, HasEvent, HasMembers, is_version_member, is_event_member, text_at, text_or_none, version_of_number};
 ghost use Rattle.event_log.specs.declared.event.LogForm.TheVariants.{Json};
 
+use crate::Version;
 use crate::line::Line;
+use crate::meaning::LineMeaning;
 use crate::object::said_event;
-use crate::{SharedLabel, Version};
 use msc_base::{Label, NoMemory};
 use serde_json::{Category, Map, Value};
 use std::alloc::Global;
@@ -41,7 +42,7 @@ fn is_version_member(key: &str) -> bool
 }
 
 /// Whether a member with this name belongs to an event.
-fn is_event_member(key: &str) -> bool
+pub fn is_event_member(key: &str) -> bool
     ensures { result ≡ is_event_member key.now }
 {
     key == "at" || key == "kind" || key == "text" || key == "far"
@@ -117,7 +118,7 @@ fn first_version(number: u64, value: &Value) -> Option<Option<Version>>
 }
 
 /// A member that is a text.
-fn text_at<'a>(value: &'a Value, key: &str) -> Option<&'a str>
+pub fn text_at<'a>(value: &'a Value, key: &str) -> Option<&'a str>
     ensures { option_map (λ s. s.now) result ≡ text_at key.now (view value.now) }
 {
     value.get(key).and_then(Value::as_str)
@@ -136,14 +137,15 @@ fn far_at(value: &Value) -> Option<Option<&str>>
     }
 }
 
-/// The event that the value is, in a log of this version.
-fn object_event(alloc: Global, version: Version, value: &Value) -> Result<Option<Label>, NoMemory>
-    ensures { IfOk result (λ found. MatchOption found (Never (IsEventObject version (view value.now)))
-        (λ label. Only (IsEventObject version (view value.now)) label)) }
+/// The event that the members of an event say, in a log of this version.
+pub fn event_of_members(
+    alloc: Global,
+    version: Version,
+    value: &Value,
+) -> Result<Option<Label>, NoMemory>
+    ensures { IfOk result (λ found. MatchOption found (Never (HasEvent version (view value.now)))
+        (λ label. Only (HasEvent version (view value.now)) label)) }
 {
-    if !has_event_members(value) {
-        return Ok(None);
-    }
     let Some(at) = text_at(value, "at") else {
         return Ok(None);
     };
@@ -159,15 +161,35 @@ fn object_event(alloc: Global, version: Version, value: &Value) -> Result<Option
     said_event(alloc, version, at, kind, text, far)
 }
 
+/// The event that the value is, in a log of this version.
+pub fn object_event(
+    alloc: Global,
+    version: Version,
+    value: &Value,
+) -> Result<Option<Label>, NoMemory>
+    ensures { IfOk result (λ found. MatchOption found (Never (IsEventObject version (view value.now)))
+        (λ label. Only (IsEventObject version (view value.now)) label)) }
+{
+    if !has_event_members(value) {
+        return Ok(None);
+    }
+    event_of_members(alloc, version, value)
+}
+
 /// What the line of this number says by its value.
-fn read_value(alloc: Global, version: Version, number: u64, value: &Value) -> Result<Line, NoMemory>
-    ensures { IfOk result (λ line. SaysBy (IsVersionObject (view value.now)) (IsEventObject version (view value.now)) number line) }
+fn read_value<M: LineMeaning>(
+    alloc: Global,
+    version: Version,
+    number: u64,
+    value: &Value,
+) -> Result<Line<M::Said>, NoMemory>
+    ensures { IfOk result (λ line. SaysBy (IsVersionObject (view value.now)) (M.rules.value_is version (view value.now)) number line) }
 {
     if let Some(stated) = first_version(number, value) {
         return Ok(Line::VersionLine(stated));
     }
-    match object_event(alloc, version, value)? {
-        Some(label) => Ok(Line::Event(SharedLabel::new(alloc, label)?)),
+    match M::event_of_value(alloc, version, value)? {
+        Some(event) => Ok(Line::Event(event)),
         None => Ok(Line::NoEvent),
     }
 }
@@ -186,13 +208,13 @@ fn value_of(alloc: Global, bytes: &[u8]) -> Result<Option<Value>, NoMemory>
 }
 
 /// What the line of this number says in JSON, in a log of this version.
-pub fn read_json_line(
+pub fn read_json_line<M: LineMeaning>(
     alloc: Global,
     version: Version,
     number: u64,
     bytes: &[u8],
-) -> Result<Line, NoMemory>
-    ensures { IfOk result (λ line. LineSays Json version number bytes.now line) }
+) -> Result<Line<M::Said>, NoMemory>
+    ensures { IfOk result (λ line. LineSays M.rules Json version number bytes.now line) }
 {
     if is_blank(bytes) {
         return Ok(Line::Blank);
@@ -200,5 +222,5 @@ pub fn read_json_line(
     let Some(value) = value_of(alloc, bytes)? else {
         return Ok(Line::NoEvent);
     };
-    read_value(alloc, version, number, &value)
+    read_value::<M>(alloc, version, number, &value)
 }

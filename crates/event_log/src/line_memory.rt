@@ -6,7 +6,8 @@ ghost use Rattle.event_log.specs.Memories.{SaysBehind, IsNumberIn, line_bytes};
 ghost use Rattle.event_log.specs.declared.event.Version.TheVariants.{First};
 ghost use Rattle.event_log.specs.declared.line_memory.TheConstants.{MOST_LINES, MOST_BYTES};
 
-use crate::line::{Line, read_line};
+use crate::line::{Line, copy_line, read_line};
+use crate::meaning::LineMeaning;
 use crate::{LogForm, Numbering, Version};
 use code_slots::CodeSlots;
 use msc_base::NoMemory;
@@ -22,53 +23,55 @@ const MOST_BYTES: usize = 8_388_608;
 
 /// What a line says, with the number of the label of its event.
 #[derive(Drop)]
-pub struct NumberedLine {
-    pub says: Line,
+pub struct NumberedLine<S> {
+    pub says: Line<S>,
     /// None where the label has none, and where the line is no event.
     pub number: Option<u32>,
 }
 
-impl NumberedLine {
-    /// The same once more.
-    fn copy(&self) -> Result<NumberedLine, NoMemory>
-        ensures { IfOk result (λ line. line ≡ self.now) }
-    {
-        Ok(NumberedLine {
-            says: self.says.copy()?,
-            number: self.number,
-        })
-    }
+/// The same once more.
+fn copy_numbered<M: LineMeaning>(
+    line: &NumberedLine<M::Said>,
+) -> Result<NumberedLine<M::Said>, NoMemory>
+    ensures { IfOk result (λ other. other ≡ line.now) }
+{
+    Ok(NumberedLine {
+        says: copy_line::<M>(&line.says)?,
+        number: line.number,
+    })
 }
 
 /// A line that is remembered, with what it says.
 #[derive(Drop)]
-pub struct KnownLine {
+pub struct KnownLine<S> {
     bytes: Vec<u8>,
-    meaning: NumberedLine,
+    meaning: NumberedLine<S>,
 }
 
-impl KnownLine {
-    /// The line with what it says.
-    fn new(alloc: Global, bytes: &[u8], meaning: &NumberedLine) -> Result<KnownLine, NoMemory>
-        ensures bytes { IfOk result (λ line. line.bytes.items ≡ bytes.now) }
-        ensures meaning { IfOk result (λ line. line.meaning ≡ meaning.now) }
-    {
-        let bytes = Vec::from_slice(alloc, bytes)?;
-        let meaning = meaning.copy()?;
-        Ok(KnownLine { bytes, meaning })
-    }
+/// The line with what it says.
+fn known_line<M: LineMeaning>(
+    alloc: Global,
+    bytes: &[u8],
+    meaning: &NumberedLine<M::Said>,
+) -> Result<KnownLine<M::Said>, NoMemory>
+    ensures bytes { IfOk result (λ line. line.bytes.items ≡ bytes.now) }
+    ensures meaning { IfOk result (λ line. line.meaning ≡ meaning.now) }
+{
+    let bytes = Vec::from_slice(alloc, bytes)?;
+    let meaning = copy_numbered::<M>(meaning)?;
+    Ok(KnownLine { bytes, meaning })
 }
 
 /// Lines of a log of one form and version, with what each says wherever it stands behind the first, and the number of its label.
 ///
 /// A contract sees the form, the version and the labels that have numbers, since a line says the same whether it is known or not.
 #[derive(Drop)]
-pub struct LineMemory<N: Numbering> {
+pub struct LineMemory<M: LineMeaning, N: Numbering> {
     numbering: N,
     form: LogForm,
     version: Version,
     /// In the order in which they came.
-    known: Vec<KnownLine>,
+    known: Vec<KnownLine<M::Said>>,
     /// Where a line stands, if it is known. A look-up follows it to one line at most, so that no log makes look-ups slow.
     slots: CodeSlots,
     /// The known lines have no more bytes than this.
@@ -77,7 +80,7 @@ pub struct LineMemory<N: Numbering> {
     unknown: usize,
 }
 
-impl<N: Numbering> Model for LineMemory<N> {
+impl<M: LineMeaning, N: Numbering> Model for LineMemory<M, N> {
     ghost use Rattle.std.specs.Prelude.{◌≤◌, length};
     ghost use Rattle.event_log.specs.Memories.{LineSort, AreKnown, line_bytes};
     ghost use Rattle.event_log.specs.declared.line_memory.TheConstants.{MOST_LINES, MOST_BYTES};
@@ -86,7 +89,7 @@ impl<N: Numbering> Model for LineMemory<N> {
 
     ghost view = { λ m. record { form = m.form; version = m.version; labels = N.labels m.numbering } };
 
-    ghost invariant = { λ m. AreKnown (N.labels m.numbering) m.form m.version m.known.items × (length m.known.items ≤ MOST_LINES) × (line_bytes m.known.items ≤ m.bytes) × (m.bytes ≤ MOST_BYTES) };
+    ghost invariant = { λ m. AreKnown M.rules (N.labels m.numbering) m.form m.version m.known.items × (length m.known.items ≤ MOST_LINES) × (line_bytes m.known.items ≤ m.bytes) × (m.bytes ≤ MOST_BYTES) };
 }
 
 /// The code of a line: equal lines have the same, and others mostly different ones.
@@ -104,9 +107,9 @@ fn has_room(lines: usize, bytes: usize, length: usize) -> bool
     lines < MOST_LINES && length <= MOST_BYTES - bytes
 }
 
-impl<N: Numbering + Drop> LineMemory<N> {
+impl<M: LineMeaning, N: Numbering + Drop> LineMemory<M, N> {
     /// For a log of this form that has stated no version yet. It takes no memory.
-    pub fn new(alloc: Global, form: LogForm, numbering: N) -> LineMemory<N>
+    pub fn new(alloc: Global, form: LogForm, numbering: N) -> LineMemory<M, N>
         ensures { result ≡ record { form = form; version = First; labels = N.labels numbering } }
     {
         LineMemory {
@@ -140,9 +143,9 @@ impl<N: Numbering + Drop> LineMemory<N> {
     }
 
     /// What the line with this code says behind the first, if it is known.
-    fn find(&self, code: u32, bytes: &[u8]) -> Option<&NumberedLine>
-        ensures says { IfSome result (λ line. SaysBehind self.now.form self.now.version bytes.now line.now.says) }
-        ensures number { IfSome result (λ line. IsNumberIn self.now.labels line.now.says line.now.number) }
+    fn find(&self, code: u32, bytes: &[u8]) -> Option<&NumberedLine<M::Said>>
+        ensures says { IfSome result (λ line. SaysBehind M.rules self.now.form self.now.version bytes.now line.now.says) }
+        ensures number { IfSome result (λ line. IsNumberIn M.rules self.now.labels line.now.says line.now.number) }
     {
         let index = self.slots.guess(code)?;
         let line = self.known.get(index as usize)?;
@@ -154,22 +157,27 @@ impl<N: Numbering + Drop> LineMemory<N> {
     }
 
     /// The number of the label of a line's event.
-    fn number_of(&self, says: &Line) -> Option<u32>
-        ensures { IsNumberIn self.now.labels says.now result }
+    fn number_of(&self, says: &Line<M::Said>) -> Option<u32>
+        ensures { IsNumberIn M.rules self.now.labels says.now result }
     {
         match says {
-            Line::Event(label) => self.numbering.number_of(label.label()),
+            Line::Event(event) => self.numbering.number_of(M::label_of(event)),
             Line::Blank | Line::VersionLine(_) | Line::NoEvent => None,
         }
     }
 
     /// What the line of this number says, which isn't known.
-    fn read_anew(&self, alloc: Global, number: u64, bytes: &[u8]) -> Result<NumberedLine, NoMemory>
+    fn read_anew(
+        &self,
+        alloc: Global,
+        number: u64,
+        bytes: &[u8],
+    ) -> Result<NumberedLine<M::Said>, NoMemory>
         requires { length bytes.now < 2 ^ 63 }
-        ensures says { IfOk result (λ line. LineSays self.now.form self.now.version number bytes.now line.says) }
-        ensures number { IfOk result (λ line. IsNumberIn self.now.labels line.says line.number) }
+        ensures says { IfOk result (λ line. LineSays M.rules self.now.form self.now.version number bytes.now line.says) }
+        ensures number { IfOk result (λ line. IsNumberIn M.rules self.now.labels line.says line.number) }
     {
-        let says = read_line(alloc, self.form, self.version, number, bytes)?;
+        let says = read_line::<M>(alloc, self.form, self.version, number, bytes)?;
         let number = self.number_of(&says);
         Ok(NumberedLine { says, number })
     }
@@ -180,10 +188,10 @@ impl<N: Numbering + Drop> LineMemory<N> {
         alloc: Global,
         code: u32,
         bytes: &[u8],
-        line: &NumberedLine,
+        line: &NumberedLine<M::Said>,
     ) -> Option<()>
-        requires says { SaysBehind self.old.form self.old.version bytes.now line.now.says }
-        requires number { IsNumberIn self.old.labels line.now.says line.now.number }
+        requires says { SaysBehind M.rules self.old.form self.old.version bytes.now line.now.says }
+        requires number { IsNumberIn M.rules self.old.labels line.now.says line.now.number }
         ensures { self.new ≡ self.old }
     {
         if !has_room(self.known.len(), self.bytes, bytes.len()) {
@@ -193,7 +201,7 @@ impl<N: Numbering + Drop> LineMemory<N> {
         let index = count as u32;
         self.slots.make_room(alloc, count).ok()?;
         let slot = self.slots.free_slot(code)?;
-        let line = KnownLine::new(alloc, bytes, line).ok()?;
+        let line = known_line::<M>(alloc, bytes, line).ok()?;
         self.known.push(line).ok()?;
         self.slots.fill(slot, code, index);
         self.bytes += bytes.len();
@@ -206,10 +214,10 @@ impl<N: Numbering + Drop> LineMemory<N> {
         alloc: Global,
         number: u64,
         bytes: &[u8],
-    ) -> Result<NumberedLine, NoMemory>
+    ) -> Result<NumberedLine<M::Said>, NoMemory>
         requires { length bytes.now < 2 ^ 63 }
-        ensures says { IfOk result (λ line. LineSays self.old.form self.old.version number bytes.now line.says) }
-        ensures number { IfOk result (λ line. IsNumberIn self.old.labels line.says line.number) }
+        ensures says { IfOk result (λ line. LineSays M.rules self.old.form self.old.version number bytes.now line.says) }
+        ensures number { IfOk result (λ line. IsNumberIn M.rules self.old.labels line.says line.number) }
         ensures same { self.new ≡ self.old }
     {
         if !self.looks_up(number) {
@@ -217,7 +225,7 @@ impl<N: Numbering + Drop> LineMemory<N> {
         }
         let code = code_of(bytes);
         if let Some(line) = self.find(code, bytes) {
-            let known = line.copy()?;
+            let known = copy_numbered::<M>(line)?;
             self.unknown = 0;
             return Ok(known);
         }

@@ -67,7 +67,7 @@ fn kind_of(text: &str) -> Option<Kind>
 }
 
 /// The name that the bytes are.
-fn name_of(alloc: Global, bytes: &[u8]) -> Result<Option<Name>, NoMemory>
+pub fn name_of(alloc: Global, bytes: &[u8]) -> Result<Option<Name>, NoMemory>
     ensures { IfOk result (λ found. MatchOption found (IsName bytes.now → ⊥) (λ name. IsName bytes.now × (name ≡ bytes.now))) }
 {
     match Name::from_bytes(alloc, bytes) {

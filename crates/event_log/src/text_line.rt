@@ -1,4 +1,4 @@
-//! What a line in the notation of charts says, and which kinds of events a version has: for `line` and `object`.
+//! What a line in the notation of charts says, and which kinds of events a version has: for `line`, `log_events` and `object`.
 
 ghost use Rattle.std.specs.Prelude.{◌≡◌, ◌<◌, ◌≤◌, ◌^◌, ◌↔◌, ◌∷◌, [], IfOk, MatchOption, IsTrue, length, All, ℕ};
 ghost use Rattle.msc_tokens.specs.Spelling.{Spells};
@@ -8,8 +8,9 @@ ghost use Rattle.msc_base.specs.Only.{Never, Only};
 ghost use Rattle.event_log.specs.Objects.{IsAllowed};
 ghost use Rattle.event_log.specs.declared.event.LogForm.TheVariants.{Lines};
 
+use crate::Version;
 use crate::line::Line;
-use crate::{SharedLabel, Version};
+use crate::meaning::LineMeaning;
 use msc_base::{Kind, Label, NoMemory, is_text};
 use msc_events::parse_event;
 use msc_tokens::{LexFault, Token, TokenList, lex_all};
@@ -98,7 +99,11 @@ pub fn is_allowed(version: Version, kind: Kind) -> bool
 }
 
 /// The event that the tokens are, in a log of this version.
-fn event_of(alloc: Global, version: Version, tokens: &TokenList) -> Result<Option<Label>, NoMemory>
+pub fn event_of_tokens(
+    alloc: Global,
+    version: Version,
+    tokens: &TokenList,
+) -> Result<Option<Label>, NoMemory>
     ensures { IfOk result (λ found. MatchOption found (Never (IsEventOf version (texts tokens.now.tokens)))
         (λ label. Only (IsEventOf version (texts tokens.now.tokens)) label)) }
 {
@@ -118,33 +123,33 @@ fn event_of(alloc: Global, version: Version, tokens: &TokenList) -> Result<Optio
 }
 
 /// What the line of this number says by its tokens, of which there are some.
-fn read_tokens(
+fn read_tokens<M: LineMeaning>(
     alloc: Global,
     version: Version,
     number: u64,
     tokens: &TokenList,
-) -> Result<Line, NoMemory>
-    ensures { IfOk result (λ line. SaysBy (StatesVersion (texts tokens.now.tokens)) (IsEventOf version (texts tokens.now.tokens)) number line) }
+) -> Result<Line<M::Said>, NoMemory>
+    ensures { IfOk result (λ line. SaysBy (StatesVersion (texts tokens.now.tokens)) (M.rules.tokens_are version (texts tokens.now.tokens)) number line) }
 {
     if let Some(stated) = first_version(number, tokens.as_slice()) {
         return Ok(Line::VersionLine(stated));
     }
-    match event_of(alloc, version, tokens)? {
-        Some(label) => Ok(Line::Event(SharedLabel::new(alloc, label)?)),
+    match M::event_of_tokens(alloc, version, tokens)? {
+        Some(event) => Ok(Line::Event(event)),
         None => Ok(Line::NoEvent),
     }
 }
 
 /// What the line of this number says in the text form, in a log of this version.
 #[tactic(auto, using(crate::proofs::Spelling::says_spelled, crate::proofs::Spelling::says_unspelled))]
-pub fn read_text_line(
+pub fn read_text_line<M: LineMeaning>(
     alloc: Global,
     version: Version,
     number: u64,
     bytes: &[u8],
-) -> Result<Line, NoMemory>
+) -> Result<Line<M::Said>, NoMemory>
     requires { length bytes.now < 2 ^ 63 }
-    ensures { IfOk result (λ line. LineSays Lines version number bytes.now line) }
+    ensures { IfOk result (λ line. LineSays M.rules Lines version number bytes.now line) }
 {
     let Some(tokens) = tokens_of(alloc, bytes)? else {
         return Ok(Line::NoEvent);
@@ -152,5 +157,5 @@ pub fn read_text_line(
     if tokens.len() == 0 {
         return Ok(Line::Blank);
     }
-    read_tokens(alloc, version, number, &tokens)
+    read_tokens::<M>(alloc, version, number, &tokens)
 }

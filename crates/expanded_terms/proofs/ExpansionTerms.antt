@@ -55,7 +55,7 @@ module _ (leaves : Leaves) where
   all_until : {T : Type 0} (read : Expansions NumberedEvent → T) (l : ExpandedParts) (t : T) (sh : Shown) (m k : ℕ) → m ≡ k → AreOf read l t sh m → AreOf read l t sh k
   all_until read l t sh m k same h = subst (λ i. AreOf read l t sh i) same h
 
-  abbrev row : Expansions NumberedEvent → Tree
+  abbrev pub row : Expansions NumberedEvent → Tree
   row = row_term of_event leaves.walk
 
   abbrev abreast : Expansions NumberedEvent → Tree
@@ -209,7 +209,7 @@ module _ (leaves : Leaves) where
     -- ---- levels
 
     -- items, tied
-    tied_items : (a : Around) (n : ℕ) (held : WovenItems) (g : Gates) (ts : List (Tag × Tag)) (f : Tag → List Tag) → AreOf row (expand_items chart ends_of g a n held) (items_term charts leaves ends_of g a n held) (items_shown charts g.calls n held) (n + items_count charts held)
+    pub tied_items : (a : Around) (n : ℕ) (held : WovenItems) (g : Gates) (ts : List (Tag × Tag)) (f : Tag → List Tag) → AreOf row (expand_items chart ends_of g a n held) (items_term charts leaves ends_of g a n held) (items_shown charts g.calls n held) (n + items_count charts held)
         → IsOf (past f (tied ts (in_row (expand_items chart ends_of g a n held)))) (tie_of (items_term charts leaves ends_of g a n held) (tied_numbers (items_shown charts g.calls n held) ts)) (past_shown f (items_shown charts g.calls n held)) (n + items_count charts held) false
     tied_items a n held g ts f h =
         past_of f (tied ts (in_row (expand_items chart ends_of g a n held))) (tie_of (items_term charts leaves ends_of g a n held) (tied_numbers (items_shown charts g.calls n held) ts)) (items_shown charts g.calls n held) (n + items_count charts held) false

@@ -42,3 +42,4 @@ mod WholeCharts
 mod DeeperCharts
 mod NamedEvents
 mod WholeNets
+mod OperandTerms

@@ -60,7 +60,7 @@ filter_among f (b ∷ l) a h = by (f b) (filter_among f l a) h
 -- ---- what is still to be seen
 
 -- it is of these numbers
-abbrev AreShownOf : List NumberedEvent → Shown → Type 0
+abbrev pub AreShownOf : List NumberedEvent → Shown → Type 0
 AreShownOf es sh = (p : ℕ × Tag) → Among p sh → Among p.0 (map (λ (e : NumberedEvent). e.number) es)
 
 abbrev pair_to : ℕ → ℕ → Pair
@@ -98,13 +98,13 @@ past_of es f sh h p i = by (flat_among (λ p. map (λ a. (p.0, a)) (f p.1)) sh p
 
 -- ---- parts
 
-record IsHeld (e : Expanded) : Type 0 where
-  ties : EachTie IsWithin e.part
-  shown : AreShownOf (events_in e.part) e.shown
+pub record IsHeld (e : Expanded) : Type 0 where
+  pub ties : EachTie IsWithin e.part
+  pub shown : AreShownOf (events_in e.part) e.shown
 
-record AreHeld (l : ExpandedParts) : Type 0 where
-  ties : EachTies IsWithin l.parts
-  shown : AreShownOf (all_events_in l.parts) l.shown
+pub record AreHeld (l : ExpandedParts) : Type 0 where
+  pub ties : EachTies IsWithin l.parts
+  pub shown : AreShownOf (all_events_in l.parts) l.shown
 
 none_held : (n : ℕ) → AreHeld (nothing n)
 none_held n = record { ties = tt; shown = λ p h. elim h [ ] }
@@ -124,7 +124,7 @@ put_held e l h i = record {
   ];
 }
 
-row_held : (l : ExpandedParts) → AreHeld l → IsHeld (in_row l)
+pub row_held : (l : ExpandedParts) → AreHeld l → IsHeld (in_row l)
 row_held l h = record { ties = h.ties; shown = h.shown }
 
 aside_held : (l : ExpandedParts) → AreHeld l → IsHeld (aside l)
@@ -142,7 +142,7 @@ turns_held n lower upper e h = record { ties = h.ties; shown = h.shown }
 option_held : (e : Expanded) → IsHeld e → IsHeld (or_nothing e)
 option_held e h = record { ties = (h.ties, (tt, tt)); shown = λ p i. shown_left (events_in e.part) [] p.0 (h.shown p i) }
 
-tied_held : (ts : List (Tag × Tag)) (e : Expanded) → IsHeld e → IsHeld (tied ts e)
+pub tied_held : (ts : List (Tag × Tag)) (e : Expanded) → IsHeld e → IsHeld (tied ts e)
 tied_held ts e h = record { ties = ((λ p i. tied_both (events_in e.part) e.shown ts p h.shown i), h.ties); shown = h.shown }
 
 past_held : (f : Tag → List Tag) (e : Expanded) → IsHeld e → IsHeld (past f e)
@@ -193,7 +193,7 @@ module _ (ends_of : WovenItems → List GateEnd) (chart : tree.Charts) (known : 
         (tied_held (ties held pairs (calls held) (ends_of held)) (in_row (expand_items chart ends_of (gates_of held (ends_of held)) a n held))
         (row_held (expand_items chart ends_of (gates_of held (ends_of held)) a n held) (items_held (gates_of held (ends_of held)) a n held)))
 
-    items_held : (g : Gates) (a : Around) (n : ℕ) (xs : WovenItems) → AreHeld (expand_items chart ends_of g a n xs)
+    pub items_held : (g : Gates) (a : Around) (n : ℕ) (xs : WovenItems) → AreHeld (expand_items chart ends_of g a n xs)
     items_held g a n no_items = none_held n
     items_held g a n (item_and x xs) = put_held (expand_item chart ends_of g a n x) (expand_items chart ends_of g a (expand_item chart ends_of g a n x).next xs) (item_held g a n x) (items_held g a (expand_item chart ends_of g a n x).next xs)
 
@@ -266,7 +266,7 @@ module _ (ends_of : WovenItems → List GateEnd) (chart : tree.Charts) (known : 
   entry_held table gates n None = row_held (nothing n) (none_held n)
   entry_held table gates n (Some entry) = woven_held table gates n (refinements entry.decls) entry.content
 
-charts_held : (ends_of : WovenItems → List GateEnd) (table : Table) (depth : ℕ) (name : List ℕ) (gates : GateMap) (n : ℕ) → IsHeld (expand_charts ends_of table depth name gates n)
+pub charts_held : (ends_of : WovenItems → List GateEnd) (table : Table) (depth : ℕ) (name : List ℕ) (gates : GateMap) (n : ℕ) → IsHeld (expand_charts ends_of table depth name gates n)
 charts_held ends_of table zero name gates n = row_held (nothing n) (none_held n)
 charts_held ends_of table (suc depth) name gates n = entry_held ends_of (expand_charts ends_of table depth) (charts_held ends_of table depth) table gates n (chart_at table name)
 

@@ -89,7 +89,7 @@ module _ (table : Table) (ends_of : WovenItems → List GateEnd) (leaves : Leave
       level_fit : (a : Around) (n : ℕ) (b : Body) → IsWholeLevel table ends_of IsWholeChart b → Has (expand_level chart ends_of a n b).part → IsFitLevel table ends_of leaves Named IsWalk charts IsFitChart a n b
       level_fit a n (level cover held pairs) (e, w) h = (e, items_fit (gates_of held (ends_of held)) a n held w h)
 
-      items_fit : (g : Gates) (a : Around) (n : ℕ) (xs : WovenItems) → AreWholeItems table ends_of IsWholeChart xs → Have (expand_items chart ends_of g a n xs).parts → AreFitItems table ends_of leaves Named IsWalk charts IsFitChart g a n xs
+      pub items_fit : (g : Gates) (a : Around) (n : ℕ) (xs : WovenItems) → AreWholeItems table ends_of IsWholeChart xs → Have (expand_items chart ends_of g a n xs).parts → AreFitItems table ends_of leaves Named IsWalk charts IsFitChart g a n xs
       items_fit g a n no_items w h = tt
       items_fit g a n (item_and x xs) (w, v) h =
           let e = expand_item chart ends_of g a n x in

@@ -23,3 +23,4 @@ pub mod GateTies
 pub mod JoinProducts
 pub mod WholeCharts
 pub mod DeeperCharts
+pub mod OperandTerms

@@ -11,6 +11,7 @@ ghost use Rattle.expanded_terms.specs.RankedTerms.{RankedExpansionsAreSound};
 ghost use Rattle.expanded_terms.specs.FewPairs.{FewPairsHaveRoom};
 ghost use Rattle.expanded_terms.specs.GraphWalks.{NetsAreWhole};
 ghost use Rattle.expanded_terms.specs.JoinProducts.{ChartsAreLight};
+ghost use Rattle.expanded_terms.specs.OperandTerms.{TakenItemsMean};
 ghost use Rattle.expanded_terms.specs.PlacedTerms.{EventsArePlaced};
 ghost use Rattle.expanded_terms.specs.WholeCharts.{WholeChartsAreFit};
 ghost use Rattle.expanded_terms.specs.WorkedExpansion.{GateExpands};
@@ -31,6 +32,19 @@ use term_laws::laws::{
 #[tactic(auto, using(crate::proofs::ChartParts::expanded_terms_mean))]
 pub fn expanded_terms_mean()
     ensures { ExpandedTermsMean }
+{
+    normal_forms_keep_patterns();
+    later_tables_agree();
+    fresh_terms_are_sound();
+    constructors_keep_soundness();
+    walks_stay_within();
+    walks_are_of_text();
+}
+
+/// The term of items of a level where they stand means their unfoldings, tied as the level is.
+#[tactic(auto, using(crate::proofs::OperandTerms::taken_items_mean))]
+pub fn taken_items_mean()
+    ensures { TakenItemsMean }
 {
     normal_forms_keep_patterns();
     later_tables_agree();

@@ -17,7 +17,7 @@ use Rattle.msc_rules.specs.declared.rule.Rule.TheVariants.{Unsupported}
 use Rattle.msc_rules.specs.Rules.{rule_text}
 use Rattle.event_log.specs.Faults.{fault_text}
 use Rattle.event_log.specs.declared.event.LogFault.{LogFault}
-use Rattle.event_log.specs.declared.event.LogFault.TheVariants.{Syntax, LongLine, LogLimit, Version, NoMemory}
+use Rattle.event_log.specs.declared.event.LogFault.TheVariants.{Syntax, LongLine, LogLimit, TooManySessions, Version, NoMemory}
 use Rattle.judge_report.specs.Texts.{needs_no_escape, needs_no_escape_byte, document_words, log_words, line_number}
 
 -- a byte is none of those that are escaped
@@ -79,6 +79,7 @@ fault_plain : (fault : LogFault) → needs_no_escape (fault_text fault) ≡ true
 fault_plain (Syntax line) = refl
 fault_plain (LongLine line) = refl
 fault_plain (LogLimit line) = refl
+fault_plain (TooManySessions line) = refl
 fault_plain (Version line) = refl
 fault_plain NoMemory = refl
 

@@ -8,7 +8,7 @@ use Rattle.msc_base.specs.declared.verdict.Verdict.TheVariants.{Conforms, Fails,
 use Rattle.msc_rules.specs.declared.rule.Rule.{Rule}
 use Rattle.msc_rules.specs.Rules.{rule_text}
 use Rattle.event_log.specs.declared.event.LogFault.{LogFault}
-use Rattle.event_log.specs.declared.event.LogFault.TheVariants.{Syntax, LongLine, LogLimit, Version, NoMemory}
+use Rattle.event_log.specs.declared.event.LogFault.TheVariants.{Syntax, LongLine, LogLimit, TooManySessions, Version, NoMemory}
 use Rattle.event_log.specs.Faults.{IsLogFault, fault_text}
 use Rattle.judge_report.specs.declared.fault.Fault.{Fault}
 use Rattle.judge_report.specs.declared.fault.Fault.TheVariants.{Document, NoChart, Log, DocumentRead, LogRead, Usage}
@@ -45,6 +45,7 @@ abbrev pub line_number : LogFault → ℕ
 line_number (Syntax line) = line
 line_number (LongLine line) = line
 line_number (LogLimit line) = line
+line_number (TooManySessions line) = line
 line_number (Version line) = line
 line_number NoMemory = 0
 

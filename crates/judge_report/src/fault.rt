@@ -35,6 +35,7 @@ fn line_of_fault(fault: &LogFault) -> u64
         LogFault::Syntax(line) => line,
         LogFault::LongLine(line) => line,
         LogFault::LogLimit(line) => line,
+        LogFault::TooManySessions(line) => line,
         LogFault::Version(line) => line,
         LogFault::NoMemory => 0,
     }

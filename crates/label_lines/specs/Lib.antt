@@ -1,1 +1,2 @@
 pub mod LabelLines
+pub mod ReadingBack

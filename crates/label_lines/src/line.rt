@@ -1,7 +1,8 @@
 //! The text of a label.
 
-ghost use Rattle.std.specs.Prelude.{◌≡◌, ◌++◌, IfOk, OnOk};
+ghost use Rattle.std.specs.Prelude.{◌≡◌, ◌++◌, ℕ, List, IfOk, OnOk};
 ghost use Rattle.label_lines.specs.LabelLines.{act_words, end_words, far_words, label_line, start_word};
+ghost use Rattle.label_lines.specs.ReadingBack.{IsEventText, IsLineOf, SaysLabel};
 
 use msc_base::{Far, Kind, Label, NoMemory, Text};
 use std::alloc::{AllocError, Global};
@@ -60,9 +61,8 @@ fn add_act(line: &mut Vec<u8>, label: &Label) -> Result<(), AllocError>
     add_far(line, label.kind, &label.far)
 }
 
-/// The label as the event of a log's line in the notation of charts (Z.120, clauses 4.3 and 4.8 to 4.11), without a line end: one blank
-/// stands between the parts of the act, and the label's text stands as it is.
-pub fn label_text(alloc: Global, label: &Label) -> Result<Text, NoMemory>
+/// The text of a label.
+fn written(alloc: Global, label: &Label) -> Result<Text, NoMemory>
     ensures { IfOk result (λ text. text ≡ label_line label.now) }
 {
     let mut line = Vec::new(alloc);
@@ -71,4 +71,17 @@ pub fn label_text(alloc: Global, label: &Label) -> Result<Text, NoMemory>
     add_act(&mut line, label)?;
     line.push(b';')?;
     Ok(Text::from_vec(line))
+}
+
+/// The label as the event of a log's line in the notation of charts (Z.120, clauses 4.3 and 4.8 to 4.11), without a line end: one blank
+/// stands between the parts of the act, and the label's text stands as it is. Of a label that some text says, the text says that label
+/// and no other, and is a line with its event in each log whose version has its kind. A string in the label's text may hold a line feed;
+/// then the text does, and only a log whose lines aren't cut there, one in JSON, can have the event.
+pub fn label_text(alloc: Global, label: &Label) -> Result<Text, NoMemory>
+    ensures text { IfOk result (λ text. text ≡ label_line label.now) }
+    ensures reads_back { IfOk result (λ text. (bytes : List ℕ) → IsEventText bytes label.now → SaysLabel text label.now) }
+    ensures line { IfOk result (λ text. (bytes : List ℕ) → IsEventText bytes label.now → IsLineOf text label.now) }
+{
+    let text = written(alloc, label)?;
+    Ok(text)
 }

@@ -1,9 +1,6 @@
-pub mod Bounds
-pub mod Examples
 pub mod Listings
 pub mod LogOutcomes
 pub mod LogTaking
-pub mod Digits
 pub mod Prints
 pub mod Replies
 pub mod SampleLogs
@@ -11,4 +8,3 @@ pub mod SampleReplies
 pub mod Settling
 pub mod Taking
 pub mod TextFaults
-pub mod WordLaws

@@ -4,10 +4,10 @@ use Rattle.outside.specs.Shelves.{Files, Opens}
 use Rattle.event_log.specs.declared.event.LogFault.{LogFault}
 use Rattle.event_log.specs.declared.event.LogForm.{LogForm}
 use Rattle.msc_meaning.specs.Tables.{Table}
-use Rattle.chart_judge.specs.Judged.{IsJudgeFault}
+use Rattle.log_judge.specs.Judged.{IsJudgeFault}
 use Rattle.term_sets.specs.Memories.{PoolValue}
-use Rattle.chart_judge.specs.States.{JudgeValue}
-use Rattle.chart_judge.specs.declared.fault.JudgeFault.TheVariants.{Log}
+use Rattle.log_judge.specs.States.{JudgeValue}
+use Rattle.log_judge.specs.declared.fault.JudgeFault.TheVariants.{Log}
 use Rattle.chart_judge.specs.Judging.{IsJudging}
 use Rattle.msc_cmd.specs.LogJudging.{IsReadingLog, IsJudged, IsJudgedLog, IsStep}
 use Rattle.msc_cmd.specs.Reading.{HasRead}

@@ -9,8 +9,8 @@ use Rattle.msc_meaning.specs.Tables.{ChartEntry, Table, chart_at}
 use Rattle.msc_cmd.specs.declared.answer.Reply.{Reply}
 use Rattle.event_log.specs.declared.event.LogFault.{LogFault}
 use Rattle.event_log.specs.declared.event.LogForm.{LogForm}
-use Rattle.msc_cmd.specs.declared.requests.Request.{Request}
-use Rattle.msc_cmd.specs.Requests.{request_of, IsNoRequest}
+use Rattle.msc_requests.specs.declared.request.Request.{Request}
+use Rattle.msc_requests.specs.Requests.{request_of, IsNoRequest}
 use Rattle.judge_report.specs.declared.fault.Fault.TheVariants.{Document, Log, LogRead, NoChart, Usage}
 use Rattle.judge_report.specs.Texts.{accepted_line, fault_line}
 use Rattle.judge_report.specs.Writing.{AppendsPart}

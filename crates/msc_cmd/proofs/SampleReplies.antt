@@ -19,8 +19,8 @@ use Rattle.judge_report.specs.declared.fault.Fault.TheVariants.{Document, NoChar
 use Rattle.judge_report.specs.SampleTexts.{sample_line}
 use Rattle.judge_report.specs.Texts.{fault_line, verdict_line}
 use Rattle.msc_cmd.specs.declared.answer.Reply.{Reply}
-use Rattle.msc_cmd.specs.declared.requests.Request.{Request}
-use Rattle.msc_cmd.specs.declared.requests.Request.TheVariants.{Sample}
+use Rattle.msc_requests.specs.declared.request.Request.{Request}
+use Rattle.msc_requests.specs.declared.request.Request.TheVariants.{Sample}
 use Rattle.msc_cmd.specs.declared.sample_log.Sampled.{Sampled}
 use Rattle.msc_cmd.specs.declared.sample_log.Sampled.TheVariants.{Told, Refused}
 use Rattle.msc_cmd.specs.Documents.{IsOnlyDocument, IsOnlyFault}

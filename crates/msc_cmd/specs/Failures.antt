@@ -5,11 +5,11 @@ use Rattle.outside.specs.Shelves.{Files}
 use Rattle.msc_meaning.specs.Tables.{ChartEntry, Table, chart_at}
 use Rattle.judge_report.specs.declared.fault.Fault.TheVariants.{DocumentRead, LogRead}
 use Rattle.judge_report.specs.Texts.{fault_line}
-use Rattle.msc_cmd.specs.declared.requests.Request.{Request}
-use Rattle.msc_cmd.specs.declared.requests.Request.TheVariants.{Judge, Next, Check, Print, Sample}
-use Rattle.msc_cmd.specs.declared.requests.Request.TheVariants as requests
+use Rattle.msc_requests.specs.declared.request.Request.{Request}
+use Rattle.msc_requests.specs.declared.request.Request.TheVariants.{Judge, Next, Check, Print, Sample}
+use Rattle.msc_requests.specs.declared.request.Request.TheVariants as requests
 use Rattle.msc_cmd.specs.Documents.{IsDocument}
-use Rattle.msc_cmd.specs.Requests.{request_of}
+use Rattle.msc_requests.specs.Requests.{request_of}
 use Rattle.msc_cmd.specs.Outcomes.{IfTold}
 
 -- the shelf's last call failed, at this entry

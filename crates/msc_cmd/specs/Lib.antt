@@ -5,7 +5,6 @@ pub mod Intakes
 pub mod LogJudging
 pub mod Outcomes
 pub mod Reading
-pub mod Requests
 pub mod Samples
 pub mod Sampling
 pub mod Openings

@@ -10,7 +10,7 @@ use Rattle.event_log.specs.Faults.{IsLogFault}
 use Rattle.event_log.specs.States.{IsFaultOf}
 use Rattle.event_log.specs.declared.event.LogForm.{LogForm}
 use Rattle.term_sets.specs.Memories.{PoolValue}
-use Rattle.chart_judge.specs.States.{JudgeValue}
+use Rattle.log_judge.specs.States.{JudgeValue}
 use Rattle.msc_meaning.specs.Tables.{Table}
 use Rattle.chart_judge.specs.Judging.{IsJudging, IsVerdictOn}
 use Rattle.chart_judge.specs.NextLabels.{IsNextOn}

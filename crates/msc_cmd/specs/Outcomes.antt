@@ -28,12 +28,12 @@ use Rattle.judge_report.specs.SampleTexts.{sample_line}
 use Rattle.judge_report.specs.Texts.{accepted_line, fault_line, verdict_line}
 use Rattle.msc_cmd.specs.declared.log_reading.Wanted.{Wanted}
 use Rattle.msc_cmd.specs.declared.log_reading.Wanted.TheVariants.{TheVerdict, NextLabels}
-use Rattle.msc_cmd.specs.declared.requests.Request.{Request}
-use Rattle.msc_cmd.specs.declared.requests.Request.TheVariants.{Judge, Next, Check, Print, Sample}
-use Rattle.msc_cmd.specs.declared.requests.Request.TheVariants as requests
+use Rattle.msc_requests.specs.declared.request.Request.{Request}
+use Rattle.msc_requests.specs.declared.request.Request.TheVariants.{Judge, Next, Check, Print, Sample}
+use Rattle.msc_requests.specs.declared.request.Request.TheVariants as requests
 use Rattle.msc_cmd.specs.DocumentTexts.{ReadsDocument, HasTextFault}
 use Rattle.msc_cmd.specs.Documents.{IsDocument, HasDocumentFault}
-use Rattle.msc_cmd.specs.Requests.{request_of, IsNoRequest}
+use Rattle.msc_requests.specs.Requests.{request_of, IsNoRequest}
 use Rattle.msc_cmd.specs.Samples.{sample_log, sample_name, sample_text, yes_count}
 
 abbrev pub status_of : Verdict → ℕ

@@ -3,22 +3,22 @@
 ghost use Rattle.std.specs.Prelude.{◌≡◌, ◌<◌, ◌≤◌, ◌⊎◌, ◌++◌, ◌∷◌, [], List, ℕ, IfOk, Some};
 ghost use Rattle.std.specs.Io.KnownBytes.{Appends, Keeps};
 ghost use Rattle.outside.specs.Causes.{Rose};
-ghost use Rattle.msc_cmd.specs.Requests.{IsBounded, IsNoRequest, request_of as request_in_words};
+ghost use Rattle.msc_requests.specs.Requests.{IsBounded, IsNoRequest, request_of as request_in_words};
 ghost use Rattle.judge_report.specs.Writing.{AppendsPart};
 ghost use Rattle.msc_cmd.specs.Outcomes.{IfTold, IsAnswer, IsOfOutcome, IsOutcome, IsStatus, IsTheOne, RequestOutcome};
 ghost use Rattle.msc_cmd.specs.Failures.{CannotJudge, CannotServe};
-ghost use Rattle.msc_cmd.specs.declared.requests.Request.TheVariants.{Sample};
+ghost use Rattle.msc_requests.specs.declared.request.Request.TheVariants.{Sample};
 
 use crate::answer::{Reply, Style, judge_files, make_reply};
 use crate::checking::check_file;
 use crate::listing::list_file;
 use crate::log_reading::Wanted;
 use crate::printing::print_file;
-use crate::requests::{Request, WordFault, request_of};
 use crate::sampling::sample_reply;
 use event_log::LogForm;
 use judge_report::{Fault, emit};
 use msc_base::{NoMemory, Words};
+use msc_requests::{Request, WordFault, request_of};
 use outside::{Shelf, Sink};
 use std::alloc::Global;
 

@@ -1,6 +1,6 @@
 //! The command: from its words and what a shelf holds to the bytes and the status that it answers.
 //!
-//! `specs/` says which words are a request, what the outcome of a request is, and what is printed.
+//! `specs/` says what the outcome of a request is, and what is printed.
 #![tactic(auto)]
 
 mod answer;
@@ -12,13 +12,10 @@ mod entry;
 mod intake;
 mod listing;
 mod log_reading;
-mod numbers;
 mod opening;
 mod printing;
 mod reading;
-mod requests;
 mod sample_log;
 mod sampling;
 
 pub use command::run;
-pub use requests::{Request, WordFault, request_of};

@@ -13,8 +13,9 @@ ghost use Rattle.msc_cmd.specs.LogJudging.{IsJudgedLog, IsReadingLog, IsStep, Is
 ghost use Rattle.msc_cmd.specs.declared.log_reading.Wanted.TheVariants.{TheVerdict, NextLabels};
 
 use crate::entry::{PIECE_BYTES, ReadFault, read_piece, start_entry};
-use chart_judge::{ChartJudge, JudgeFault, Next};
+use chart_judge::{ChartJudge, Next};
 use event_log::{LogFault, LogForm};
+use log_judge::JudgeFault;
 use msc_acceptance::Accepted;
 use msc_base::{Text, Verdict};
 use outside::Shelf;

@@ -7,23 +7,19 @@ ghost use Rattle.msc_base.specs.declared.limits.TheConstants.Limits.{BUDGET_DEFA
 ghost use Rattle.msc_meaning.specs.Tables.{Table};
 ghost use Rattle.msc_meaning.specs.Views.{table_view};
 ghost use Rattle.msc_cmd.specs.Documents.{HasChartNamed};
-ghost use Rattle.chart_judge.specs.Judged.{IsJudgeFault};
+ghost use Rattle.log_judge.specs.Judged.{IsJudgeFault};
 ghost use Rattle.chart_judge.specs.Judging.{IsJudging};
-ghost use Rattle.msc_cmd.specs.declared.sample_log.TheConstants.{MOST_SEED, MOST_TURNS};
+ghost use Rattle.msc_requests.specs.declared.request.TheConstants.{MOST_SEED, MOST_TURNS};
 ghost use Rattle.msc_cmd.specs.Samples.{means_yes, next_drawn, sample_log, sample_name, turn_lines, yes_count};
 ghost use Rattle.msc_cmd.specs.Sampling.{IsSampled};
 
-use chart_judge::{ChartJudge, JudgeFault};
+use chart_judge::ChartJudge;
 use event_log::{LogFault, LogForm};
+use log_judge::JudgeFault;
 use msc_acceptance::Accepted;
 use msc_base::{Limits, NoMemory, Verdict};
+use msc_requests::{MOST_SEED, MOST_TURNS};
 use std::alloc::Global;
-
-/// The most turns that a sample may have: its log stays within the limits of logs.
-pub const MOST_TURNS: u64 = 250_000;
-
-/// The greatest seed. No number that is drawn is greater.
-pub const MOST_SEED: u64 = 2_147_483_647;
 
 /// What the log of a sample comes to for its chart.
 #[derive(Clone, Copy, Debug, PartialEq, Eq)]

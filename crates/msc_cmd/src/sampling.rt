@@ -3,7 +3,7 @@
 ghost use Rattle.std.specs.Prelude.{◌≡◌, ◌≤◌, ◌<◌, ℕ, IfOk, length};
 ghost use Rattle.msc_base.specs.declared.limits.TheConstants.Limits.{DOCUMENT_BYTES};
 ghost use Rattle.msc_meaning.specs.Tables.{Table};
-ghost use Rattle.msc_cmd.specs.declared.sample_log.TheConstants.{MOST_SEED, MOST_TURNS};
+ghost use Rattle.msc_requests.specs.declared.request.TheConstants.{MOST_SEED, MOST_TURNS};
 ghost use Rattle.msc_cmd.specs.Documents.{IsTheDocument};
 ghost use Rattle.msc_cmd.specs.Outcomes.{IsTheOne, SampleLogOutcome, SampleOutcome};
 ghost use Rattle.msc_cmd.specs.Samples.{sample_name, sample_text};

@@ -141,7 +141,7 @@ orders_back = back_as (λ p. record { earlier_than = p.0; later_than = p.1.0 }) 
     tt (λ a m. tt) refl (λ a m. names_filled (codes "before") a m) refl (λ a. refl))
     (λ a m. tt) (λ a m. refl) (λ a. refl)
 
-parameters_back : Back parameters Any (λ l. enclosed (name_words l)) same
+pub parameters_back : Back parameters Any (λ l. enclosed (name_words l)) same
 parameters_back = back_behind (just (codes "(")) (codes "(") _ refl
     (back_as (λ p. p.0) (optional all_or_none (separated (codes ",") item) (mark (codes ")"))) Any (λ l. name_words l ++ codes ")" ∷ []) same (λ c. c.0)
     (back_optional all_or_none (separated (codes ",") item) (mark (codes ")")) Any name_words same all_or_none

@@ -26,7 +26,7 @@ proper_pieces p (OneMark b ∷ xs) rest h = (λ i. mark b refl h.0, proper_piece
 proper_pieces p (LongMark b c ∷ xs) rest h = (λ i. absurd (long_mark b c h.0 i), proper_pieces (past p (text (LongMark b c))) xs rest h.2)
 
 -- the tokens that bytes spell begin as strings only where they are strings
-proper : (bytes : List ℕ) (tokens : List Token) → Spells bytes tokens → Proper tokens
+pub proper : (bytes : List ℕ) (tokens : List Token) → Spells bytes tokens → Proper tokens
 proper bytes tokens h = subst Proper (sym h.tokens_are) (proper_pieces first_place h.pieces [] h.cut)
 
 pub printed_texts : (n : ℕ) (bytes : List ℕ) (tokens : List Token) (d : Document) → Spells bytes tokens → (document n).reads tokens d → AreTexts (document_words d)

@@ -21,17 +21,17 @@ piece_of w (word h) = OneWord w
 piece_of w (quoted ps e h) = OneString ps
 piece_of w (mark b e h) = OneMark b
 
-text_is : (w : List ℕ) (t : IsText w) → w ≡ text (piece_of w t)
+pub text_is : (w : List ℕ) (t : IsText w) → w ≡ text (piece_of w t)
 text_is w (word h) = refl
 text_is w (quoted ps e h) = e
 text_is w (mark b e h) = e
 
-piece_is : (w : List ℕ) (t : IsText w) → IsPiece (piece_of w t)
+pub piece_is : (w : List ℕ) (t : IsText w) → IsPiece (piece_of w t)
 piece_is w (word h) = h
 piece_is w (quoted ps e h) = h
 piece_is w (mark b e h) = h
 
-token_is : (p : Place) (w : List ℕ) (t : IsText w) → texts (token_of p (piece_of w t)) ≡ w ∷ []
+pub token_is : (p : Place) (w : List ℕ) (t : IsText w) → texts (token_of p (piece_of w t)) ≡ w ∷ []
 token_is p w (word h) = refl
 token_is p w (quoted ps e h) = ap (λ (z : List ℕ). z ∷ []) (sym e)
 token_is p w (mark b e h) = ap (λ (z : List ℕ). z ∷ []) (sym e)
@@ -63,7 +63,7 @@ ends_last w (quoted ps e h) = λ k. k
 ends_last w (mark b e h) = λ k. k
 
 -- a text of one byte that no word has is a mark
-one_byte : (b : ℕ) (w : List ℕ) (t : IsText w) → w ≡ b ∷ [] → (IsWordByte b → ⊥) → (b ≡ 39 → ⊥) → piece_of w t ≡ OneMark b
+pub one_byte : (b : ℕ) (w : List ℕ) (t : IsText w) → w ≡ b ∷ [] → (IsWordByte b → ⊥) → (b ≡ 39 → ⊥) → piece_of w t ≡ OneMark b
 one_byte b w (word h) e no_word no_string = absurd (no_word ((subst (λ (z : List ℕ). All IsWordByte z) e h.bytes_are) 0 0 (omega arith)))
 one_byte b w (quoted ps i h) e no_word no_string = absurd (no_string cc)
 one_byte b w (mark c i h) e no_word no_string = let same : c ≡ b = cc in ap OneMark same

@@ -2,3 +2,4 @@ pub mod Rising
 mod LabelOrder
 mod GoingOn
 mod FoundLabels
+mod Marked

@@ -1,3 +1,4 @@
 pub mod Order
 pub mod NextLabels
 pub mod Found
+pub mod Marks

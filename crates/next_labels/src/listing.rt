@@ -4,34 +4,39 @@ ghost use Rattle.std.specs.Prelude.{◌≡◌, ◌<◌, ◌+◌, length, OnOk, I
 ghost use Rattle.chart_term.specs.Properties.{Each};
 ghost use Rattle.trace_judge.specs.Sets.{IsSoundFor};
 ghost use Rattle.next_labels.specs.Found.{Finds, IsFoundUpTo};
+ghost use Rattle.next_labels.specs.Marks.{AreMarks};
 ghost use Rattle.next_labels.specs.NextLabels.{AreNextLabels};
 
-use crate::asking::goes_on_with;
+use crate::marking::marks_of;
 use crate::order::ListedLabel;
+use bit_sets::NodeSet;
 use msc_base::{LabelList, NoMemory};
 use std::alloc::Global;
 use std::collections::BTreeSet;
 use term_sets::TermSet;
 use term_tables::Nets;
 
-/// Adds the label of that number, where the set goes on with it.
+/// Adds the label of that number, where it is marked as one with which the set goes on.
 #[tactic(auto, using(crate::proofs::FoundLabels::finding))]
 fn add_label(
     alloc: Global,
     nets: &Nets,
     set: &TermSet,
+    marks: &NodeSet,
     number: u32,
     found: &mut BTreeSet<ListedLabel>,
 ) -> Result<(), NoMemory>
-    requires sound { Each (IsSoundFor nets.now) set.now }
+    requires marks { AreMarks nets.now set.now marks.now }
     requires there { number < length nets.now.labels }
     requires found { IsFoundUpTo nets.now set.now number found.old.keys }
     ensures { OnOk result (IsFoundUpTo nets.now set.now (number + 1) found.new.keys) }
 {
-    if goes_on_with(alloc, nets, set, number)? {
-        let label = nets.label_at(number).copy(alloc)?;
-        found.insert(ListedLabel::new(label))?;
+    let _ = set;
+    if !marks.has(number) {
+        return Ok(());
     }
+    let label = nets.label_at(number).copy(alloc)?;
+    found.insert(ListedLabel::new(label))?;
     Ok(())
 }
 
@@ -52,9 +57,10 @@ pub fn next_labels(alloc: Global, nets: &Nets, set: &TermSet) -> Result<LabelLis
     requires { Each (IsSoundFor nets.now) set.now }
     ensures { IfOk result (AreNextLabels nets.now set.now) }
 {
+    let marks = marks_of(alloc, nets, set)?;
     let mut found = BTreeSet::new(alloc);
     for number in 0..nets.labels() {
-        add_label(alloc, nets, set, number, &mut found)?;
+        add_label(alloc, nets, set, &marks, number, &mut found)?;
     }
     list_of(alloc, found)
 }

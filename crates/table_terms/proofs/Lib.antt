@@ -1,11 +1,11 @@
 mod Numbered
-mod NumberedCharts
+pub mod NumberedCharts
 mod StoredCharts
 mod InstanceNumbers
 mod EachWalks
 mod ChartWalks
-mod PlacedTerms
-mod SoundCharts
+pub mod PlacedTerms
+pub mod SoundCharts
 mod MeantCharts
 mod LightCharts
 mod TableLaws

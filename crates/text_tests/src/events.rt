@@ -1,7 +1,7 @@
 //! Logs of both forms in pieces, and what they say.
 use event_log::{LineEvent, LogFault, LogForm, LogReader};
 use label_table::LabelTable;
-use msc_base::{Far, Kind};
+use msc_base::{Far, Kind, Label};
 use std::alloc::Global;
 use std::test::Fail;
 
@@ -74,20 +74,24 @@ fn kind_word(kind: Kind) -> &'static str {
 }
 
 /// The number of the line in which the fault is decided.
-fn line_of(fault: LogFault) -> u64 {
+pub(crate) fn line_of(fault: LogFault) -> u64 {
     match fault {
         LogFault::Syntax(line)
         | LogFault::LongLine(line)
         | LogFault::LogLimit(line)
+        | LogFault::TooManySessions(line)
         | LogFault::Version(line) => line,
         LogFault::NoMemory => 0,
     }
 }
 
-/// Adds the event as `LINE AT KIND TEXT FAR / `.
-fn add_event(alloc: Global, event: &LineEvent, said: &mut Vec<u8>) -> Result<(), Fail> {
-    let line = event.line;
-    let label = event.label.label();
+/// Adds the event with this label as `LINE AT KIND TEXT FAR / `.
+pub(crate) fn add_label(
+    alloc: Global,
+    line: u64,
+    label: &Label,
+    said: &mut Vec<u8>,
+) -> Result<(), Fail> {
     let head = format!(in alloc; "{line} ")?;
     said.extend_from_slice(head.as_bytes())?;
     said.extend_from_slice(label.at.bytes())?;
@@ -103,6 +107,11 @@ fn add_event(alloc: Global, event: &LineEvent, said: &mut Vec<u8>) -> Result<(),
     }
     said.extend_from_slice(b" / ")?;
     Ok(())
+}
+
+/// Adds the event as `LINE AT KIND TEXT FAR / `.
+fn add_event(alloc: Global, event: &LineEvent, said: &mut Vec<u8>) -> Result<(), Fail> {
+    add_label(alloc, event.line, event.label.label(), said)
 }
 
 /// Adds the events that wait.

@@ -13,6 +13,8 @@ mod ordering;
 #[cfg(test)]
 mod places;
 #[cfg(test)]
+mod sessions;
+#[cfg(test)]
 mod tokens;
 #[cfg(test)]
 mod weaving;

@@ -6,7 +6,7 @@ use Rattle.term_sets.specs.contracts.pool.PoolStore.TheImpl.{holds-value}
 use Rattle.term_tables.specs.NetValues.{NetsValue}
 use Rattle.trace_judge.specs.Logs.{BeginsTermRun, labels_of}
 use Rattle.trace_judge.specs.Tracks.{Fed}
-use Rattle.chart_judge.specs.Ends.{HasEnded}
+use Rattle.log_judge.specs.Ends.{HasEnded}
 use Rattle.chart_judge.proofs.NextLabels.{term_next}
 use Rattle.chart_judge.proofs.next.next_behind.Goals as goal
 

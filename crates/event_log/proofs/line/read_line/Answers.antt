@@ -4,11 +4,11 @@ use Rattle.event_log.proofs.Spelling.{says_in}
 use Rattle.event_log.proofs.line.read_line.Goals as goal
 
 pub returns-in-Lines : goal.returns-in-Lines
-returns-in-Lines c =
+returns-in-Lines g c =
     let is : c.args.form ≡ Lines = search rules in
-    says_in c.args.form Lines c.args.version c.args.number c.args.bytes.now c.read_text_line.result is c.read_text_line.ensures
+    says_in g.M.LineMeaning.rules c.args.form Lines c.args.version c.args.number c.args.bytes.now c.read_text_line.result is c.read_text_line.ensures
 
 pub returns-in-Json : goal.returns-in-Json
-returns-in-Json c =
+returns-in-Json g c =
     let is : c.args.form ≡ Json = search rules in
-    says_in c.args.form Json c.args.version c.args.number c.args.bytes.now c.read_json_line.result is c.read_json_line.ensures
+    says_in g.M.LineMeaning.rules c.args.form Json c.args.version c.args.number c.args.bytes.now c.read_json_line.result is c.read_json_line.ensures

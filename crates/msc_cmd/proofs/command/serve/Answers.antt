@@ -1,5 +1,5 @@
 use Rattle.std.proofs.Common.{◌≡◌, rules}
-use Rattle.msc_cmd.specs.declared.requests.Request.TheVariants as requests
+use Rattle.msc_requests.specs.declared.request.Request.TheVariants as requests
 use Rattle.msc_cmd.proofs.Replies.{served}
 use Rattle.msc_cmd.proofs.SampleReplies.{sample_read, sample_served, sample_small}
 use Rattle.msc_cmd.proofs.command.serve.Goals as goal

@@ -1,5 +1,5 @@
 use Rattle.std.proofs.Common.{◌<◌, ◌++◌, false, length, arith, rules, subst}
-use Rattle.chart_judge.specs.Judged.{IsJudgeFault}
+use Rattle.log_judge.specs.Judged.{IsJudgeFault}
 use Rattle.msc_cmd.proofs.LogTaking.{read_fault, read_more}
 use Rattle.msc_cmd.proofs.log_reading.take_more.Goals as goal
 

@@ -1,5 +1,5 @@
 use Rattle.std.proofs.Common.{false, subst}
-use Rattle.chart_judge.specs.Judged.{IsJudgeFault}
+use Rattle.log_judge.specs.Judged.{IsJudgeFault}
 use Rattle.msc_cmd.specs.declared.log_reading.Judged.TheVariants.{Told, Refused}
 use Rattle.msc_cmd.proofs.LogTaking.{log_end}
 use Rattle.msc_cmd.proofs.log_reading.verdict_of.Goals as goal

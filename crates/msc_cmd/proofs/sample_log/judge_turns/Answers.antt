@@ -1,6 +1,6 @@
 use Rattle.std.proofs.Common.{◌≡◌, [], false, subst}
 use Rattle.event_log.specs.declared.event.LogForm.TheVariants.{Lines}
-use Rattle.chart_judge.specs.Judged.{IsJudgeFault}
+use Rattle.log_judge.specs.Judged.{IsJudgeFault}
 use Rattle.chart_judge.specs.Judging.{IsJudging}
 use Rattle.msc_base.specs.declared.limits.TheConstants.Limits.{BUDGET_DEFAULT}
 use Rattle.msc_meaning.specs.Views.{table_view}

@@ -1,9 +1,9 @@
 use Rattle.std.proofs.Common.{◌≡◌, ◌+◌, ◌++◌, ◌∙◌, Bool, ℕ, List, Result, Err, IfErr, false, if◌then◌else◌, ap, arith, rules, subst, sym}
 use Rattle.event_log.specs.declared.event.LogForm.TheVariants.{Lines}
 use Rattle.msc_base.specs.declared.limits.TheConstants.Limits.{BUDGET_DEFAULT}
-use Rattle.chart_judge.specs.Judged.{IsJudgeFault}
+use Rattle.log_judge.specs.Judged.{IsJudgeFault}
 use Rattle.chart_judge.specs.Judging.{IsJudging}
-use Rattle.chart_judge.specs.declared.fault.JudgeFault.{JudgeFault}
+use Rattle.log_judge.specs.declared.fault.JudgeFault.{JudgeFault}
 use Rattle.msc_cmd.specs.Samples.{drawn_in, means_yes, sample_log, sample_name, turn_lines}
 use Rattle.msc_cmd.proofs.SampleLogs.{count_next, drawn_next, log_has_more, log_next, one_or_none}
 use Rattle.msc_cmd.proofs.sample_log.take_turns.Goals as goal

@@ -3,7 +3,7 @@ use Rattle.event_log.specs.declared.event.LogForm.TheVariants.{Lines}
 use Rattle.msc_base.specs.declared.limits.TheConstants.Limits.{BUDGET_DEFAULT}
 use Rattle.msc_meaning.specs.Tables.{Table}
 use Rattle.chart_judge.specs.Judging.{IsJudging}
-use Rattle.msc_cmd.specs.declared.sample_log.TheConstants.{MOST_SEED}
+use Rattle.msc_requests.specs.declared.request.TheConstants.{MOST_SEED}
 use Rattle.msc_cmd.specs.Samples.{drawn_in, sample_log, sample_name, yes_count}
 use Rattle.msc_cmd.proofs.sample_log.take_turns.Given as goal
 

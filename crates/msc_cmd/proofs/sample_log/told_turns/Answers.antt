@@ -1,8 +1,8 @@
 use Rattle.std.proofs.Common.{◌≡◌, Result, Err, IfErr, false, rules, subst, sym}
 use Rattle.event_log.specs.declared.event.LogForm.TheVariants.{Lines}
 use Rattle.msc_base.specs.declared.limits.TheConstants.Limits.{BUDGET_DEFAULT}
-use Rattle.chart_judge.specs.Judged.{IsJudgeFault}
-use Rattle.chart_judge.specs.declared.fault.JudgeFault.{JudgeFault}
+use Rattle.log_judge.specs.Judged.{IsJudgeFault}
+use Rattle.log_judge.specs.declared.fault.JudgeFault.{JudgeFault}
 use Rattle.msc_cmd.specs.Samples.{sample_log, sample_name}
 use Rattle.msc_cmd.specs.declared.sample_log.Sampled.{Sampled}
 use Rattle.msc_cmd.proofs.sample_log.told_turns.Goals as goal

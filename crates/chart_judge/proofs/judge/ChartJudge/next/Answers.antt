@@ -1,8 +1,8 @@
 use Rattle.std.proofs.Common.{◌≡◌, false, Result, Err, IfErr, rules, subst, sym}
-use Rattle.chart_judge.specs.Judged.{IsJudgeFault}
+use Rattle.log_judge.specs.Judged.{IsJudgeFault}
 use Rattle.chart_judge.specs.Judging.{IsJudging}
-use Rattle.chart_judge.specs.declared.fault.JudgeFault.{JudgeFault}
-use Rattle.chart_judge.specs.declared.fault.JudgeFault.TheVariants.{NoMemory}
+use Rattle.log_judge.specs.declared.fault.JudgeFault.{JudgeFault}
+use Rattle.log_judge.specs.declared.fault.JudgeFault.TheVariants.{NoMemory}
 use Rattle.chart_judge.specs.declared.next.Next.{Next}
 use Rattle.chart_judge.proofs.NextLabels.{next_on}
 use Rattle.chart_judge.proofs.judge.ChartJudge.next.Goals as goal

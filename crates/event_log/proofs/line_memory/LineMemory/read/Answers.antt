@@ -9,12 +9,12 @@ use Rattle.event_log.proofs.line_memory.LineMemory.read.Goals as goal
 pub returns-in-Some-clause-says : goal.returns-in-Some-clause-says
 returns-in-Some-clause-says g c =
     let behind : 1 < c.args.number = search rules in
-    subst (λ (m : NumberedLine). LineSays c.args.self.now.form c.args.self.now.version c.args.number c.args.bytes.now m.says) (sym c.in_ok-known.ensures) (c.in-Some.ensures.says c.args.number behind)
+    subst (λ (m : NumberedLine _). LineSays g.M.LineMeaning.rules c.args.self.now.form c.args.self.now.version c.args.number c.args.bytes.now m.says) (sym c.in_ok-known.ensures) (c.in-Some.ensures.says c.args.number behind)
 
 pub returns-in-Some-clause-number : goal.returns-in-Some-clause-number
-returns-in-Some-clause-number g c = subst (λ (m : NumberedLine). IsNumberIn c.args.self.now.labels m.says m.number) (sym c.in_ok-known.ensures) c.in-Some.ensures.number
+returns-in-Some-clause-number g c = subst (λ (m : NumberedLine _). IsNumberIn g.M.LineMeaning.rules c.args.self.now.labels m.says m.number) (sym c.in_ok-known.ensures) c.in-Some.ensures.number
 
 pub remember-requires-clause-says : goal.remember-requires-clause-says
 remember-requires-clause-says g c =
     let behind : 1 < c.args.number = search rules in
-    says_behind c.args.self.now.form c.args.self.now.version c.args.number c.args.bytes.now c.in_ok-line.line.says behind c.in_ok-line.ensures.says
+    says_behind g.M.LineMeaning.rules c.args.self.now.form c.args.self.now.version c.args.number c.args.bytes.now c.in_ok-line.line.says behind c.in_ok-line.ensures.says

@@ -1,0 +1,9 @@
+pub mod Instances
+pub mod Steps
+pub mod PartMakers
+pub mod FoundChoices
+pub mod Places
+pub mod WalkParts
+pub mod OneOrder
+pub mod OneList
+pub mod JudgedCharts

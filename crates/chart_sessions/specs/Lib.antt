@@ -1,0 +1,2 @@
+pub mod SessionVerdicts
+pub mod Judging

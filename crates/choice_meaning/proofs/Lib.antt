@@ -1,0 +1,3 @@
+mod AlikeUnfoldings
+mod FarEndLaws
+mod WorkedChoices

@@ -1,0 +1,5 @@
+pub mod Choices
+pub mod FirstInstances
+pub mod ChoiceLists
+pub mod FarEndLaws
+pub mod WorkedChoices

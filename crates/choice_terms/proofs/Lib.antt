@@ -1,0 +1,10 @@
+mod TiedTaken
+mod TakenTerms
+mod OperandParts
+mod RowFacts
+mod ItemPlaces
+mod PartFacts
+mod RowOperands
+mod FoundParts
+mod GoodCharts
+mod ChoiceLaws

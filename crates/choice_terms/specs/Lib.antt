@@ -1,0 +1,2 @@
+pub mod JudgedParts
+pub mod ChoiceLaws

@@ -1,0 +1,3 @@
+mod EventBack
+mod LabelBack
+mod Laid

@@ -1,0 +1,4 @@
+pub mod Few
+pub mod Takings
+pub mod Faults
+mod LogJudging

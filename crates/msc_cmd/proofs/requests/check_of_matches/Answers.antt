@@ -1,9 +1,0 @@
-use Rattle.std.proofs.Common.{subst, Option}
-use Rattle.clap.specs.Words.{found_of}
-use Rattle.msc_cmd.specs.declared.requests.Request.{Request}
-use Rattle.msc_cmd.specs.Requests.{Answers}
-use Rattle.msc_cmd.proofs.WordLaws.{checked_firsts}
-use Rattle.msc_cmd.proofs.requests.check_of_matches.Goals as goal
-
-pub returns : goal.returns
-returns c = subst (λ (o : Option Request). Answers o c.check_of_texts.result) (checked_firsts (found_of c.args.matches.now) _ _ c.get_str.ensures c.get_str-2.ensures) c.check_of_texts.ensures

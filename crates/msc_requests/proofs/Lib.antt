@@ -1,0 +1,4 @@
+pub mod Bounds
+mod Digits
+mod Examples
+mod WordLaws

@@ -1,0 +1,5 @@
+pub mod SessionEvents
+mod SessionLists
+mod Took
+mod Answers
+mod Judging

@@ -1,0 +1,5 @@
+pub mod SessionEvents
+pub mod SessionVerdicts
+pub mod States
+pub mod Steps
+pub mod Tracks
