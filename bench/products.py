@@ -1,5 +1,5 @@
 #!/usr/bin/env python3
-"""Times `mscjudge next`, which tells what may come next in a log, and states the peak memory.
+"""Times `mscjudge next`, which tells what may come next in a log, and `mscjudge sessions`, and states the peak memory.
 
 usage: products.py --program PROGRAM [WORK ..]
 
@@ -12,6 +12,8 @@ PROGRAM is the built program. Each work is run three times, and the least time c
     alike       2,000 and 8,000 alternatives that begin with the same action, behind it: as many terms, each with a label of its own
     gone        one of two alternatives, behind 7 of its 14 equal actions: 3,432 terms, none of which has one of the 10,000 labels of the other
     turns       1,900 turns of a loop under way, each an action that 500 other instances follow
+    sessions    1,000 sessions of a loop of one message in 1,000,000 mixed lines, a turn at a time and an event at a time, and the same lines as one
+                log; 1,000 sessions in 1,000,000 lines, no two of which are equal
     ring, mesh  a ring of 4,000 nodes over 1,000 instances, so that 1,000 of the nodes may come next; 2,000 nodes that lead to 90 each
 """
 import sys
@@ -20,6 +22,7 @@ import first_path
 import measured
 
 NEXT = ["next", "d", "A", "l"]
+SESSIONS = ["sessions", "d", "A", "l"]
 
 
 def chart(instances, *items):
@@ -93,6 +96,27 @@ def behind(count):
     return "".join(line + "\n" for line in actions(count))
 
 
+LOOP = chart("ij", "i,j: loop <0,inf> begin;", "i: out a to j;", "j: in a from i;", "loop end;")
+MESSAGE = ("i: out a to j;\n", "j: in a from i;\n")
+
+
+def mixed(sessions, turns, whole):
+    """A log of so many sessions of the loop, as many turns each: a turn at a time, or an event."""
+    keys, lines = [f"{name} = " for name in names("s", sessions)], []
+    for _ in range(turns):
+        if whole:
+            lines += [key + line for key in keys for line in MESSAGE]
+        else:
+            lines += [key + line for line in MESSAGE for key in keys]
+    return "".join(lines)
+
+
+def unequal(sessions, each):
+    """Sessions of actions, no two of whose lines are equal: a note in each line counts them."""
+    document = chart("i", "i: loop <0,inf> begin;", "i: action a;", "loop end;")
+    return document, SESSIONS, "".join(f"s{number % sessions} = i: action a; /* {number} */\n" for number in range(sessions * each))
+
+
 # the works by name; of each what it is, and how its document, words and log are made
 WORKS = {
     "labels": [("1,000 operands of one action beside each other", lambda: (chart("i", operands("par", actions(1000))), NEXT, "")),
@@ -110,6 +134,10 @@ WORKS = {
               for count in (2_000, 8_000)],
     "gone": [("a choice of which one way is gone", lambda: gone(14, 10_000))],
     "turns": [("1,900 turns under way", lambda: turns(1_900, 500))],
+    "sessions": [("1,000 sessions, a turn at a time", lambda: (LOOP, SESSIONS, mixed(1_000, 500, True))),
+                 ("the same lines as one log", lambda: (LOOP, ["judge", "d", "A", "l"], "".join(MESSAGE) * 500_000)),
+                 ("1,000 sessions, an event at a time", lambda: (LOOP, SESSIONS, mixed(1_000, 500, False))),
+                 ("1,000 sessions of lines that differ", lambda: unequal(1_000, 1_000))],
     "ring": [("a ring of 4,000 nodes", lambda: (graph(4000, lambda number: [number + 1]), NEXT, ""))],
     "mesh": [("2,000 nodes that lead to 90 each", lambda: (graph(2000, lambda number: range(31 * number, 31 * number + 90)), NEXT, ""))],
 }

@@ -9,7 +9,7 @@ import os
 import re
 import sys
 
-FUNCTIONS, LINES, CHAIN, EDITS, ALL_EDITS, TESTS = 100, 800, 14, 8, 90, 40
+FUNCTIONS, LINES, CHAIN, EDITS, ALL_EDITS, TESTS = 100, 800, 15, 8, 90, 40
 PROGRAM = "mscjudge"
 TEST_CRATES = ("text_tests", "graph_tests", "calculus_tests", "command_tests", "term_bench")
 

@@ -14,7 +14,7 @@ than a third of the documents are faulty, at one place or two. Logs are runs of 
 under way, and runs damaged at a random place, in text or JSON, and some are judged within the least budget that lets them pass, and within
 one less. What is a run, or the beginning of one, is also known here without the model, so a model that errs there is found. What may come next is
 asked behind each log in text, within the same budgets, and behind the beginning of a run, whose next event has to be told; the log has to go on
-with an event that is told.
+with an event that is told. Some such runs, damaged or not, are also mixed in one log, as sessions; each has to be told as it was made.
 
 Each difference is printed with what it takes to see it again: document K of a seed is made alone by `--first K --documents 1`. At the
 end stands how often each answer came. It ends with status 1 where there is a difference.
@@ -118,8 +118,8 @@ def run_of(rng, chart):
     return chart_parts.run_of(rng, chart) if whole else chart_parts.beginning_of(rng, chart), whole
 
 
-def log_of(rng, chart):
-    """A log, whether it is in JSON, and the statuses that it may have, as the chart was made: those of a run, or of a beginning."""
+def damaged_run(rng, chart):
+    """The events of a run, damaged or not, and the statuses that they may have, as the chart was made: those of a run, or of a beginning."""
     run, whole = run_of(rng, chart)
     events = [*chart.events(), *run]
     damage = rng.random() if events else 1
@@ -136,18 +136,51 @@ def log_of(rng, chart):
         run[at], run[at + 1] = run[at + 1], run[at]
     elif damage < 0.65:
         rng.shuffle(run)
-    form = rng.choice(["text", "text", "json"])
-    lines = [event.line(form, rng) for event in run]
-    creates = any(event.kind == "create" for event in run)
+    statuses = (CONFORMS, TOO_LARGE) if whole else (CONFORMS, EARLY, TOO_LARGE)
+    return run, statuses if damage < 0.15 or damage >= 0.65 else None
+
+
+def written(rng, form, lines, creates):
+    """A log of these lines, and whether it is one: now and then a line is none, or the version isn't that of its events."""
+    lines = list(lines)
     version = rng.choice([2] * 18 + [1, None] if creates else [None] * 18 + [1, 2])
     if version:
         lines.insert(0, json.dumps({"log": version}) if form == "json" else f"log {version};")
     odd = rng.random() < 0.03
     if odd:
         lines.insert(rng.randint(0, len(lines)), "nonsense")
-    known = not odd and (not creates or version == 2) and (damage < 0.15 or damage >= 0.65)
-    statuses = (CONFORMS, TOO_LARGE) if whole else (CONFORMS, EARLY, TOO_LARGE)
-    return "\n".join(lines) + rng.choice(["\n", ""]), form == "json", statuses if known else None
+    return "\n".join(lines) + rng.choice(["\n", ""]), not odd and (not creates or version == 2)
+
+
+def log_of(rng, chart):
+    """A log, whether it is in JSON, and the statuses that it may have, as the chart was made."""
+    run, statuses = damaged_run(rng, chart)
+    form = rng.choice(["text", "text", "json"])
+    log, known = written(rng, form, [event.line(form, rng) for event in run], any(event.kind == "create" for event in run))
+    return log, form == "json", statuses if known else None
+
+
+def keyed_line(rng, form, key, event):
+    """The line of an event in a log of sessions."""
+    line = event.line(form, rng)
+    if form == "text":
+        return f"{key} = {line}"
+    members = [*json.loads(line).items(), ("session", key)]
+    rng.shuffle(members)
+    return json.dumps(dict(members))
+
+
+def mixed_log(rng, chart):
+    """A log of some sessions, whether it is in JSON, and for each key the statuses that its session may have, as the chart was made."""
+    made = {key: damaged_run(rng, chart) for key in rng.sample(["s1", "s2", "i", "A.1", "7_"], rng.randint(0, 4))}
+    form = rng.choice(["text", "text", "json"])
+    left, lines = {key: list(run) for key, (run, _) in made.items() if run}, []
+    while left:
+        key = rng.choice(list(left))
+        lines.append(keyed_line(rng, form, key, left[key].pop(0)))
+        left = {key: run for key, run in left.items() if run}
+    log, known = written(rng, form, lines, any(event.kind == "create" for run, _ in made.values() for event in run))
+    return log, form == "json", {key: statuses for key, (run, statuses) in made.items() if run} if known else None
 
 
 def least_budget(model, words):
@@ -209,6 +242,26 @@ def compare_goings_on(rng, both, chart):
             both.differ(["judge", chart.name], (f"told to go on with {chosen!r}, and the model says", answer))
 
 
+def status_told(verdict):
+    """The status of a session's verdict."""
+    return next(status for status, words in ((CONFORMS, "conforms"), (1, "fails"), (EARLY, "stops early"), (TOO_LARGE, "too large")) if verdict.startswith(words))
+
+
+def compare_sessions(rng, both, chart):
+    """Compares the verdicts on the sessions of a log of the chart."""
+    log, is_json, statuses = mixed_log(rng, chart)
+    both.hold(l=log)
+    words = ["sessions", "d", chart.name, "l", *(["--log-json"] if is_json else [])]
+    status, text = both.compare(*words, *rng.choice([[], [], ["--budget", str(rng.choice([5, 50, MOST]))]]))
+    both.told[verdict_of(text.splitlines()[-1])] += 1
+    if statuses is None or chart.fault is not None:
+        return
+    told = dict(line.split(": ", 1) for line in text.splitlines()[:-1])
+    wrong = set(told) != set(statuses) or any(known and status_told(told[key]) not in known for key, known in statuses.items())
+    if wrong:
+        both.differ(words, (f"made for sessions of the statuses {statuses}, and the model says", (status, text)))
+
+
 def line_of(event):
     """The line by which an event is told that may come next."""
     words = re.sub("^set ", "starttimer ", re.sub("^reset ", "stoptimer ", event.words(False)))
@@ -231,6 +284,7 @@ def compare_document(rng, both):
         for _ in range(3):
             compare_log(rng, both, chart)
             compare_goings_on(rng, both, chart)
+        compare_sessions(rng, both, chart)
     return "accepted"
 
 

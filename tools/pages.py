@@ -125,17 +125,19 @@ def of_definitions():
 
 
 def of_limits():
-    """Limits that the README shows otherwise than msc_base has them."""
-    limits = dict(re.findall(r"pub const (\w+): u64 = ([\d_]+);", open("crates/msc_base/src/limits.rt").read()))
+    """Limits that the README shows otherwise than the crates have them."""
+    limits = {}
+    for path in ("crates/msc_base/src/limits.rt", "crates/session_log/src/keys.rt"):
+        limits.update(re.findall(r"pub const (\w+): u(?:64|size) = ([\d_]+);", open(path).read()))
     section = open("README.md").read().split("## Limits")[1].split("\n## ")[0]
     shown = set(re.findall(r"\d[\d,]*\d|\d", "\n".join(line.split("|")[2] for line in section.splitlines() if line.startswith("| "))))
     told = ("DOCUMENT_BYTES", "CHARTS", "INSTANCES", "NODE_LINES", "NESTING", "EXPANDED_NESTING", "EXPANDED_SIZE", "TOTAL_SIZE", "LOOP_BOUND", "NAME_BYTES", "LOG_BYTES",
-            "LOG_EVENTS", "LINE_BYTES", "BUDGET_DEFAULT", "BUDGET_MOST")
+            "LOG_EVENTS", "LINE_BYTES", "MOST_SESSIONS", "BUDGET_DEFAULT", "BUDGET_MOST")
     for name in told:
         if limits[name].replace("_", ",") not in shown:
             yield f"README.md: the limits lack {limits[name].replace('_', ',')} ({name})"
     for number in sorted(shown - {limits[name].replace("_", ",") for name in told}):
-        yield f"README.md: no limit of msc_base is {number}"
+        yield f"README.md: no limit of the crates is {number}"
 
 
 def of_figures():

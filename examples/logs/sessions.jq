@@ -1,3 +1,3 @@
-# A line of the trace as three fields with tabs between: the session, the time, and the event of a log.
+# A line of the trace as an event of a log of sessions: `session` is its key. A name has letters, digits, `_` and `.` alone.
 def name: gsub("[^A-Za-z0-9_.]"; "_");
-[.session, .ms, ({at: .service | name, kind: {send: "out", receive: "in"}[.event], text: .message, far: .peer | name} | tojson)] | @tsv
+{session: .session | name, at: .service | name, kind: {send: "out", receive: "in"}[.event], text: .message, far: .peer | name}

@@ -5,6 +5,7 @@ pub mod Prints
 pub mod Replies
 pub mod SampleLogs
 pub mod SampleReplies
+pub mod SessionReplies
 pub mod Settling
 pub mod Taking
 pub mod TextFaults

@@ -23,7 +23,8 @@ use Rattle.judge_report.specs.NextTexts.{next_list}
 use Rattle.msc_cmd.specs.LogJudging.{SaysNext}
 use Rattle.msc_cmd.specs.declared.log_reading.Wanted.{Wanted}
 use Rattle.msc_cmd.specs.declared.log_reading.Wanted.TheVariants.{TheVerdict, NextLabels}
-use Rattle.msc_cmd.specs.Outcomes.{LogOutcome, bad_log, judged, EntryOutcome, of_bytes, IsTheOne, ListsNext, Says, TellsNext, status_of}
+use Rattle.msc_cmd.specs.Outcomes.{LogOutcome, bad_log, judged, EntryOutcome, of_bytes, IsTheOne, ListsNext, Says, TellsNext}
+use Rattle.msc_cmd.specs.VerdictStatuses.{status_of}
 
 -- a log without a fault
 pub judged_one : (form : LogForm) (budget : ℕ) (json : Bool) (table : Table) (name bytes : List ℕ) (verdict : Verdict) (status : ℕ) (text : List ℕ)
@@ -90,9 +91,8 @@ pub one_entry : (files : Files) (name a b : List ℕ) → files name ≡ Some a 
 one_entry files name a b ia ib = let h : Some b ≡ Some a = sym ib ∙ ia in cc
 
 -- the one outcome of an entry's bytes is that of the entry
-pub entry_one : (wanted : Wanted) (form : LogForm) (budget : ℕ) (json : Bool) (files : Files) (table : Table) (name log bytes : List ℕ) (status : ℕ) (text : List ℕ) → files log ≡ Some bytes → IsTheOne (LogOutcome wanted form budget json table name bytes) status text
-    → IsTheOne (EntryOutcome wanted form budget json files table name log) status text
-entry_one wanted form budget json files table name log bytes status text held one = record { is = of_bytes bytes held one.is; only = λ other others o. by other others o }
+pub entry_one : (files : Files) (log bytes : List ℕ) (Answer : List ℕ → ℕ → List ℕ → Type 0) (status : ℕ) (text : List ℕ) → files log ≡ Some bytes → IsTheOne (Answer bytes) status text → IsTheOne (EntryOutcome files log Answer) status text
+entry_one files log bytes Answer status text held one = record { is = of_bytes bytes held one.is; only = λ other others o. by other others o }
   where
-    by : (other : ℕ) (others : List ℕ) → EntryOutcome wanted form budget json files table name log other others → (other ≡ status) × (others ≡ text)
-    by other others (of_bytes bs held_too o) = one.only other others (subst (λ us. LogOutcome wanted form budget json table name us other others) (one_entry files log bytes bs held held_too) o)
+    by : (other : ℕ) (others : List ℕ) → EntryOutcome files log Answer other others → (other ≡ status) × (others ≡ text)
+    by other others (of_bytes bs held_too o) = one.only other others (subst (λ us. Answer us other others) (one_entry files log bytes bs held held_too) o)

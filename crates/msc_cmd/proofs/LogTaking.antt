@@ -1,49 +1,24 @@
--- Judging a log piece by piece.
-use Rattle.std.proofs.Common.{◌<◌, ℕ, false, List, [], ◌++◌, length, ap, ◌∙◌, Option, Some, None, append-nil, length-append, arith}
-use Rattle.outside.specs.Shelves.{Files, Opens}
+-- A log that was taken.
+use Rattle.std.proofs.Common.{ℕ, List, Option}
+use Rattle.outside.specs.Shelves.{Files}
+use Rattle.entry_reading.specs.Consuming.{HasTakenEntry, IsRefusedEntry}
 use Rattle.event_log.specs.declared.event.LogFault.{LogFault}
-use Rattle.event_log.specs.declared.event.LogForm.{LogForm}
-use Rattle.msc_meaning.specs.Tables.{Table}
-use Rattle.log_judge.specs.Judged.{IsJudgeFault}
 use Rattle.term_sets.specs.Memories.{PoolValue}
 use Rattle.log_judge.specs.States.{JudgeValue}
-use Rattle.log_judge.specs.declared.fault.JudgeFault.TheVariants.{Log}
-use Rattle.chart_judge.specs.Judging.{IsJudging}
-use Rattle.msc_cmd.specs.LogJudging.{IsReadingLog, IsJudged, IsJudgedLog, IsStep}
-use Rattle.msc_cmd.specs.Reading.{HasRead}
-use Rattle.msc_cmd.specs.Intakes.{IsHeld}
+use Rattle.msc_cmd.specs.LogJudging.{JudgeSetting, IsFed, IsJudged, IsJudgedLog, IsRefusedLog}
+use Rattle.msc_cmd.specs.declared.log_reading.FedJudge.{FedJudge}
 use Rattle.msc_cmd.specs.declared.log_reading.Judged.{Judged}
 use Rattle.msc_cmd.specs.declared.log_reading.Judged.TheVariants.{Refused}
-use Rattle.msc_cmd.specs.declared.log_reading.Step.TheVariants.{More}
 
--- a piece in which a fault is decided
-pub read_fault : (table : Table) (chart : List ℕ) (form : LogForm) (budget : ℕ) (files : Option Files) (name : List ℕ) (left : Option (List ℕ)) (got : List ℕ) (x : LogFault) → ((more : List ℕ) → IsJudgeFault form false (got ++ more) (Log x)) → HasRead files name left got
-    → IsJudgedLog table chart form budget files name (Refused x)
-read_fault table chart form budget None name left got x answers h = record { bytes = got ++ []; held = tt; is = answers [] }
-read_fault table chart form budget (Some f) name None got x answers h = absurd h
-read_fault table chart form budget (Some f) name (Some l) got x answers h = record { bytes = got ++ l; held = h; is = answers l }
+-- what takes a log has taken what its judge was fed
+pub fed_entry : (setting : JudgeSetting) (files : Option Files) (name : List ℕ) (fed : FedJudge) → HasTakenEntry (λ bytes (f : FedJudge). IsFed setting bytes f.judge) files name fed → HasTakenEntry (IsFed setting) files name fed.judge
+fed_entry setting files name fed h = record { bytes = h.bytes; held = h.held; taken = h.taken }
 
--- the log of an entry that has been read to its end
-pub log_end : (table : Table) (chart : List ℕ) (form : LogForm) (budget : ℕ) (files : Option Files) (name : List ℕ) (judge : JudgeValue PoolValue) (judged : Judged) → ((bytes : List ℕ) → IsJudging table chart form budget bytes judge → IsJudged table chart form budget bytes judged)
-    → IsReadingLog table chart form budget files name (Some []) judge → IsJudgedLog table chart form budget files name judged
-log_end table chart form budget files name judge judged ends h = record { bytes = h.bytes; held = held files h.held; is = ends h.bytes h.judging }
-  where
-    held : (f : Option Files) → HasRead f name (Some []) h.bytes → IsHeld f name h.bytes
-    held None k = tt
-    held (Some f) k = k ∙ ap (λ (bs : List ℕ). Some bs) (append-nil h.bytes)
+-- to its end
+pub log_end : (setting : JudgeSetting) (files : Option Files) (name : List ℕ) (judge : JudgeValue PoolValue) (judged : Judged) → ((bytes : List ℕ) → IsFed setting bytes judge → IsJudged setting.table setting.chart setting.form setting.budget bytes judged)
+    → HasTakenEntry (IsFed setting) files name judge → IsJudgedLog setting files name judged
+log_end setting files name judge judged ends h = record { bytes = h.bytes; held = h.held; is = ends h.bytes h.taken }
 
--- an entry that has just been started
-pub opened : (table : Table) (chart : List ℕ) (form : LogForm) (budget : ℕ) (files : Option Files) (name : List ℕ) (rest : Option (List ℕ)) (judge : JudgeValue PoolValue) → Opens files name rest → IsJudging table chart form budget [] judge
-    → IsReadingLog table chart form budget files name rest judge
-opened table chart form budget files name rest judge opens judging = record { bytes = []; judging = judging; held = held files rest opens }
-  where
-    held : (f : Option Files) (r : Option (List ℕ)) → Opens f name r → HasRead f name r []
-    held None r o = tt
-    held (Some f) None o = absurd o
-    held (Some f) (Some r) o = o
-
--- a piece more has been judged
-pub read_more : (table : Table) (chart : List ℕ) (form : LogForm) (budget : ℕ) (files : Option Files) (name : List ℕ) (left : Option (List ℕ)) (bytes piece : List ℕ) (before judge : JudgeValue PoolValue) → 0 < length piece → IsJudging table chart form budget bytes before
-    → IsJudging table chart form budget (bytes ++ piece) judge → HasRead files name left (bytes ++ piece) → IsStep table chart form budget files name left before.reader.count judge More
-read_more table chart form budget files name left bytes piece before judge some was judging held =
-    (omega (arith, was.counted.count, some, judging.counted.count, length-append bytes piece), judging.counted.within, record { bytes = bytes ++ piece; judging = judging; held = held })
+-- to its first fault
+pub log_refused : (setting : JudgeSetting) (files : Option Files) (name : List ℕ) (fault : LogFault) → IsRefusedEntry (IsRefusedLog setting.form) files name fault → IsJudgedLog setting files name (Refused fault)
+log_refused setting files name fault h = record { bytes = h.bytes; held = h.held; is = h.refused }

@@ -9,7 +9,7 @@ use Rattle.judge_report.specs.declared.fault.Fault.TheVariants.{Document}
 use Rattle.judge_report.specs.Texts.{fault_line}
 use Rattle.msc_cmd.specs.declared.answer.Reply.{Reply}
 use Rattle.msc_cmd.specs.DocumentTexts.{ReadsDocument, HasTextFault, IsOnlyText, IsOnlyTextFault}
-use Rattle.msc_cmd.specs.Intakes.{IsHeld}
+use Rattle.entry_reading.specs.Reading.{IsHeld}
 use Rattle.msc_cmd.specs.Outcomes.{PrintOutcome, unread, printed, IfTold, IsTheOne}
 use Rattle.msc_cmd.proofs.LogOutcomes.{one_entry}
 

@@ -15,7 +15,7 @@ use Rattle.judge_report.specs.declared.fault.Fault.TheVariants.{Document, Log, L
 use Rattle.judge_report.specs.Texts.{accepted_line, fault_line}
 use Rattle.judge_report.specs.Writing.{AppendsPart}
 use Rattle.msc_cmd.specs.Documents.{IsDocument, HasDocumentFault, IsOnlyDocument, IsOnlyFault}
-use Rattle.msc_cmd.specs.Intakes.{IsHeld}
+use Rattle.entry_reading.specs.Reading.{IsHeld}
 use Rattle.msc_cmd.specs.LogJudging.{IsJudged, IsNextReply, IsToldLog, IsWanted}
 use Rattle.chart_judge.specs.declared.next.Next as chart
 use Rattle.msc_cmd.specs.declared.log_reading.Wanted.{Wanted}
@@ -97,12 +97,12 @@ no_request_one words files status text none s t = record { is = no_request none 
 
 -- The same for replies, where the entries are told
 
-pub log_told : {E : Type 0} (wanted : Wanted) (form : LogForm) (budget : ℕ) (json : Bool) (files : Option Files) (table : Table) (name log bytes : List ℕ) (r : Result Reply E) → IsHeld files log bytes
-    → IfOk r (λ x. IsTheOne (LogOutcome wanted form budget json table name bytes) x.status x.text) → IfOk r (λ x. x.status < 7 → IfTold files (λ f. IsTheOne (EntryOutcome wanted form budget json f table name log) x.status x.text))
-log_told wanted form budget json None table name log bytes (Ok x) h k = λ _. tt
-log_told wanted form budget json None table name log bytes (Err e) h k = tt
-log_told wanted form budget json (Some f) table name log bytes (Ok x) h k = λ _. entry_one wanted form budget json f table name log bytes x.status x.text h k
-log_told wanted form budget json (Some f) table name log bytes (Err e) h k = tt
+pub log_told : {E : Type 0} (files : Option Files) (log bytes : List ℕ) (Answer : List ℕ → ℕ → List ℕ → Type 0) (r : Result Reply E) → IsHeld files log bytes → IfOk r (λ x. IsTheOne (Answer bytes) x.status x.text)
+    → IfOk r (λ x. x.status < 7 → IfTold files (λ f. IsTheOne (EntryOutcome f log Answer) x.status x.text))
+log_told None log bytes Answer (Ok x) h k = λ _. tt
+log_told None log bytes Answer (Err e) h k = tt
+log_told (Some f) log bytes Answer (Ok x) h k = λ _. entry_one f log bytes Answer x.status x.text h k
+log_told (Some f) log bytes Answer (Err e) h k = tt
 
 pub refused_told : {E : Type 0} (json : Bool) (files : Option Files) (d bytes : List ℕ) (Answer : Files → Table → ℕ → List ℕ → Type 0) (broken : Rule) (place : Place) (r : Result Reply E) → IsHeld files d bytes → IsOnlyFault bytes broken place
     → IfOk r (λ x. x.status ≡ 4) → IfOk r (λ x. x.text ≡ fault_line json (Document broken place)) → IfOk r (λ x. x.status < 7 → IfTold files (λ f. IsTheOne (DocumentOutcome json f d (Answer f)) x.status x.text))
@@ -124,21 +124,21 @@ checked_told json None d bytes charts count x h doc s n t = λ _. tt
 checked_told json (Some f) d bytes charts count x h doc s n t =
     λ _. charts_one json f d bytes (CheckAnswer json) charts x.status x.text h doc (said_one (accepted_line json (length charts)) x.status x.text s (t ∙ ap (accepted_line json) n))
 
-pub no_chart_told : {E : Type 0} (wanted : Wanted) (form : LogForm) (budget : ℕ) (json : Bool) (files : Option Files) (d n l bytes : List ℕ) (charts : Table) (r : Result Reply E) → IsHeld files d bytes → IsOnlyDocument bytes charts → chart_at charts n ≡ None → IfOk r (λ x. x.status ≡ 4)
-    → IfOk r (λ x. x.text ≡ fault_line json NoChart) → IfOk r (λ x. x.status < 7 → IfTold files (λ f. IsTheOne (FilesOutcome wanted form budget json f d n l) x.status x.text))
-no_chart_told wanted form budget json None d n l bytes charts (Ok x) h doc lacks s t = λ _. tt
-no_chart_told wanted form budget json None d n l bytes charts (Err e) h doc lacks s t = tt
-no_chart_told wanted form budget json (Some f) d n l bytes charts (Ok x) h doc lacks s t =
-    λ _. charts_one json f d bytes (JudgeAnswer wanted form budget json f n l) charts x.status x.text h doc (no_chart_one json n charts (λ chart. EntryOutcome wanted form budget json f charts n l) x.status x.text lacks s t)
-no_chart_told wanted form budget json (Some f) d n l bytes charts (Err e) h doc lacks s t = tt
+pub no_chart_told : {E : Type 0} (json : Bool) (files : Option Files) (d n l bytes : List ℕ) (Answer : Table → List ℕ → ℕ → List ℕ → Type 0) (charts : Table) (r : Result Reply E) → IsHeld files d bytes → IsOnlyDocument bytes charts → chart_at charts n ≡ None
+    → IfOk r (λ x. x.status ≡ 4) → IfOk r (λ x. x.text ≡ fault_line json NoChart) → IfOk r (λ x. x.status < 7 → IfTold files (λ f. IsTheOne (FilesOutcome json f d n l Answer) x.status x.text))
+no_chart_told json None d n l bytes Answer charts (Ok x) h doc lacks s t = λ _. tt
+no_chart_told json None d n l bytes Answer charts (Err e) h doc lacks s t = tt
+no_chart_told json (Some f) d n l bytes Answer charts (Ok x) h doc lacks s t =
+    λ _. charts_one json f d bytes (JudgeAnswer json f n l Answer) charts x.status x.text h doc (no_chart_one json n charts (λ chart. EntryOutcome f l (Answer charts)) x.status x.text lacks s t)
+no_chart_told json (Some f) d n l bytes Answer charts (Err e) h doc lacks s t = tt
 
-pub judged_told : {E : Type 0} (wanted : Wanted) (form : LogForm) (budget : ℕ) (json : Bool) (files : Option Files) (d n l bytes : List ℕ) (charts : Table) (chart : ChartEntry) (r : Result Reply E) → IsHeld files d bytes → IsOnlyDocument bytes charts → chart_at charts n ≡ Some chart
-    → IfOk r (λ x. x.status < 7 → IfTold files (λ f. IsTheOne (EntryOutcome wanted form budget json f charts n l) x.status x.text)) → IfOk r (λ x. x.status < 7 → IfTold files (λ f. IsTheOne (FilesOutcome wanted form budget json f d n l) x.status x.text))
-judged_told wanted form budget json None d n l bytes charts chart (Ok x) h doc same k = λ _. tt
-judged_told wanted form budget json None d n l bytes charts chart (Err e) h doc same k = tt
-judged_told wanted form budget json (Some f) d n l bytes charts chart (Ok x) h doc same k =
-    λ lt. charts_one json f d bytes (JudgeAnswer wanted form budget json f n l) charts x.status x.text h doc (chart_one json n charts (λ c. EntryOutcome wanted form budget json f charts n l) chart x.status x.text same (k lt))
-judged_told wanted form budget json (Some f) d n l bytes charts chart (Err e) h doc same k = tt
+pub judged_told : {E : Type 0} (json : Bool) (files : Option Files) (d n l bytes : List ℕ) (Answer : Table → List ℕ → ℕ → List ℕ → Type 0) (charts : Table) (chart : ChartEntry) (r : Result Reply E) → IsHeld files d bytes → IsOnlyDocument bytes charts → chart_at charts n ≡ Some chart
+    → IfOk r (λ x. x.status < 7 → IfTold files (λ f. IsTheOne (EntryOutcome f l (Answer charts)) x.status x.text)) → IfOk r (λ x. x.status < 7 → IfTold files (λ f. IsTheOne (FilesOutcome json f d n l Answer) x.status x.text))
+judged_told json None d n l bytes Answer charts chart (Ok x) h doc same k = λ _. tt
+judged_told json None d n l bytes Answer charts chart (Err e) h doc same k = tt
+judged_told json (Some f) d n l bytes Answer charts chart (Ok x) h doc same k =
+    λ lt. charts_one json f d bytes (JudgeAnswer json f n l Answer) charts x.status x.text h doc (chart_one json n charts (λ c. EntryOutcome f l (Answer charts)) chart x.status x.text same (k lt))
+judged_told json (Some f) d n l bytes Answer charts chart (Err e) h doc same k = tt
 
 has_chart : (files : Option Files) (d n bytes : List ℕ) (charts : Table) (chart : ChartEntry) → IsHeld files d bytes → IsDocument bytes charts → chart_at charts n ≡ Some chart → IfTold files (HasChart d n)
 has_chart None d n bytes charts chart h doc same = tt

@@ -25,7 +25,8 @@ use Rattle.msc_cmd.specs.declared.sample_log.Sampled.{Sampled}
 use Rattle.msc_cmd.specs.declared.sample_log.Sampled.TheVariants.{Told, Refused}
 use Rattle.msc_cmd.specs.Documents.{IsOnlyDocument, IsOnlyFault}
 use Rattle.msc_cmd.specs.declared.log_reading.Wanted.TheVariants.{TheVerdict}
-use Rattle.msc_cmd.specs.Outcomes.{LogOutcome, bad_log, judged, ChartOutcome, SampleLogOutcome, conforming, otherwise, SampleOutcome, unaccepted, of_sample, IfTold, IsTheOne, RequestOutcome, status_of}
+use Rattle.msc_cmd.specs.Outcomes.{LogOutcome, bad_log, judged, ChartOutcome, SampleLogOutcome, conforming, otherwise, SampleOutcome, unaccepted, of_sample, IfTold, IsTheOne, RequestOutcome}
+use Rattle.msc_cmd.specs.VerdictStatuses.{status_of}
 use Rattle.msc_cmd.specs.Samples.{sample_log, sample_name, sample_text, yes_count}
 use Rattle.msc_cmd.specs.Sampling.{CanBeTold, IsSampled, IsToldSample, does_conform}
 use Rattle.msc_cmd.proofs.LogOutcomes.{judged_one}

@@ -11,7 +11,7 @@ use Rattle.formed_graphs.specs.FormedGraphs.{HaveFormedGraphs}
 use Rattle.msc_tree.specs.Views.{document_view}
 use Rattle.msc_cmd.specs.DocumentTexts.{IsTheText}
 use Rattle.msc_cmd.specs.Documents.{IsTheDocument}
-use Rattle.msc_cmd.specs.Reading.{HasRead}
+use Rattle.entry_reading.specs.Reading.{HasRead, IsHeld}
 use Rattle.msc_cmd.specs.declared.intake.Intake.{Intake}
 
 -- these bytes have been taken, and those within the limit are held
@@ -30,11 +30,6 @@ pub record IsPrefixOf (prefix bytes : List ℕ) : Type 0 where
   pub rest : List ℕ
   pub are : bytes ≡ prefix ++ rest
   pub enough : (rest ≡ []) ⊎ (DOCUMENT_BYTES < length prefix)
-
--- the entry of this name has these bytes, where it is told
-abbrev pub IsHeld : Option Files → List ℕ → List ℕ → Type 0
-IsHeld None name bytes = ⊤
-IsHeld (Some files) name bytes = files name ≡ Some bytes
 
 -- of the entry of this name so much has been taken: all, or more than a document may have
 pub record HoldsDocument (files : Option Files) (name : List ℕ) (intake : Intake) : Type 0 where

@@ -3,8 +3,10 @@ pub mod Documents
 pub mod Failures
 pub mod Intakes
 pub mod LogJudging
+pub mod Openings
 pub mod Outcomes
-pub mod Reading
 pub mod Samples
 pub mod Sampling
-pub mod Openings
+pub mod SessionJudging
+pub mod SessionOutcomes
+pub mod VerdictStatuses

@@ -29,18 +29,14 @@ use Rattle.judge_report.specs.Texts.{accepted_line, fault_line, verdict_line}
 use Rattle.msc_cmd.specs.declared.log_reading.Wanted.{Wanted}
 use Rattle.msc_cmd.specs.declared.log_reading.Wanted.TheVariants.{TheVerdict, NextLabels}
 use Rattle.msc_requests.specs.declared.request.Request.{Request}
-use Rattle.msc_requests.specs.declared.request.Request.TheVariants.{Judge, Next, Check, Print, Sample}
+use Rattle.msc_requests.specs.declared.request.Request.TheVariants.{Judge, Next, Sessions, Check, Print, Sample}
 use Rattle.msc_requests.specs.declared.request.Request.TheVariants as requests
 use Rattle.msc_cmd.specs.DocumentTexts.{ReadsDocument, HasTextFault}
 use Rattle.msc_cmd.specs.Documents.{IsDocument, HasDocumentFault}
 use Rattle.msc_requests.specs.Requests.{request_of, IsNoRequest}
 use Rattle.msc_cmd.specs.Samples.{sample_log, sample_name, sample_text, yes_count}
-
-abbrev pub status_of : Verdict → ℕ
-status_of (Conforms events) = 0
-status_of (Fails event line) = 1
-status_of (Early events) = 3
-status_of (TooLarge event) = 6
+use Rattle.msc_cmd.specs.SessionOutcomes.{SessionsAnswer}
+use Rattle.msc_cmd.specs.VerdictStatuses.{status_of}
 
 -- the labels that may come next behind the events of a log, which conforms so far or stops early
 pub record ListsNext (table : Table) (name : List ℕ) (events : List LineEvent) (conforms : Bool) (status : ℕ) (text : List ℕ) : Type 0 where
@@ -71,9 +67,13 @@ pub data LogOutcome (wanted : Wanted) (form : LogForm) (budget : ℕ) (json : Bo
   judged : (events : List LineEvent) (verdict : Verdict) → LogOf form false bytes events None → IsChartVerdict table name budget events verdict → Tells wanted json table name events verdict status text
       → LogOutcome wanted form budget json table name bytes status text
 
--- what the log of this entry gives for the chart of that name
-pub data EntryOutcome (wanted : Wanted) (form : LogForm) (budget : ℕ) (json : Bool) (files : Files) (table : Table) (name log : List ℕ) (status : ℕ) (text : List ℕ) : Type 0 where
-  of_bytes : (bytes : List ℕ) → files log ≡ Some bytes → LogOutcome wanted form budget json table name bytes status text → EntryOutcome wanted form budget json files table name log status text
+-- the same of the charts of a table, for each list of bytes
+abbrev pub LogAnswer : Wanted → LogForm → ℕ → Bool → List ℕ → Table → List ℕ → ℕ → List ℕ → Type 0
+LogAnswer wanted form budget json name table bytes = LogOutcome wanted form budget json table name bytes
+
+-- what the entry of a log gives: what is answered of its bytes
+pub data EntryOutcome (files : Files) (log : List ℕ) (Answer : List ℕ → ℕ → List ℕ → Type 0) (status : ℕ) (text : List ℕ) : Type 0 where
+  of_bytes : (bytes : List ℕ) → files log ≡ Some bytes → Answer bytes status text → EntryOutcome files log Answer status text
 
 -- what the entry of a document gives: its first fault, or what is answered of its charts
 pub data DocumentOutcome (json : Bool) (files : Files) (document : List ℕ) (Answer : Table → ℕ → List ℕ → Type 0) (status : ℕ) (text : List ℕ) : Type 0 where
@@ -90,9 +90,9 @@ pub data ChartOutcome (json : Bool) (name : List ℕ) (table : Table) (Answer : 
 abbrev pub Says : List ℕ → ℕ → List ℕ → Type 0
 Says words status text = (status ≡ 0) × (text ≡ words)
 
--- where a log is judged: what it gives for the chart
-abbrev pub JudgeAnswer : Wanted → LogForm → ℕ → Bool → Files → List ℕ → List ℕ → Table → ℕ → List ℕ → Type 0
-JudgeAnswer wanted form budget json files name log table = ChartOutcome json name table (λ chart. EntryOutcome wanted form budget json files table name log)
+-- where a log is judged by the chart of a name: what the log's entry gives
+abbrev pub JudgeAnswer : Bool → Files → List ℕ → List ℕ → (Table → List ℕ → ℕ → List ℕ → Type 0) → Table → ℕ → List ℕ → Type 0
+JudgeAnswer json files name log Answer table = ChartOutcome json name table (λ chart. EntryOutcome files log (Answer table))
 
 -- where a document is checked: how many charts it has
 abbrev pub CheckAnswer : Bool → Table → ℕ → List ℕ → Type 0
@@ -104,8 +104,8 @@ ListAnswer json None table = Says (chart_list json table)
 ListAnswer json (Some name) table = ChartOutcome json name table (λ chart. Says (instance_list json (listed_of table chart)))
 
 -- what the entries of these names give
-abbrev pub FilesOutcome : Wanted → LogForm → ℕ → Bool → Files → List ℕ → List ℕ → List ℕ → ℕ → List ℕ → Type 0
-FilesOutcome wanted form budget json files document name log = DocumentOutcome json files document (JudgeAnswer wanted form budget json files name log)
+abbrev pub FilesOutcome : Bool → Files → List ℕ → List ℕ → List ℕ → (Table → List ℕ → ℕ → List ℕ → Type 0) → ℕ → List ℕ → Type 0
+FilesOutcome json files document name log Answer = DocumentOutcome json files document (JudgeAnswer json files name log Answer)
 
 -- what the entry of this name gives where it is to be printed: later rules than those of the text aren't looked at
 pub data PrintOutcome (files : Files) (document : List ℕ) (status : ℕ) (text : List ℕ) : Type 0 where
@@ -127,8 +127,9 @@ pub data SampleOutcome (turns seed : ℕ) (status : ℕ) (text : List ℕ) : Typ
 
 -- what a request gives for the entries
 abbrev pub RequestOutcome : Request → Files → ℕ → List ℕ → Type 0
-RequestOutcome (Judge document chart log budget json form) files = FilesOutcome TheVerdict form budget json files document chart log
-RequestOutcome (Next document chart log budget) files = FilesOutcome NextLabels Lines budget false files document chart log
+RequestOutcome (Judge document chart log budget json form) files = FilesOutcome json files document chart log (LogAnswer TheVerdict form budget json chart)
+RequestOutcome (Next document chart log budget) files = FilesOutcome false files document chart log (LogAnswer NextLabels Lines budget false chart)
+RequestOutcome (Sessions document chart log budget form) files = FilesOutcome false files document chart log (SessionsAnswer form budget chart)
 RequestOutcome (Check document json) files = DocumentOutcome json files document (CheckAnswer json)
 RequestOutcome (requests.List document chart json) files = DocumentOutcome json files document (ListAnswer json chart)
 RequestOutcome (Print document) files = PrintOutcome files document

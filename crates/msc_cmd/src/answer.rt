@@ -11,13 +11,14 @@ ghost use Rattle.msc_meaning.specs.Views.{table_view};
 ghost use Rattle.msc_cmd.specs.Documents.{HasChartNamed};
 ghost use Rattle.msc_cmd.specs.Failures.{FailedAt, CannotRead};
 ghost use Rattle.msc_cmd.specs.LogJudging.{IsJudged, IsNextReply, IsToldLog, IsWanted};
-ghost use Rattle.msc_cmd.specs.Outcomes.{EntryOutcome, FilesOutcome, IfTold, IsTheOne, LogOutcome, TellsVerdict, status_of};
+ghost use Rattle.msc_cmd.specs.Outcomes.{EntryOutcome, FilesOutcome, IfTold, IsTheOne, LogAnswer, LogOutcome, TellsVerdict};
+ghost use Rattle.msc_cmd.specs.VerdictStatuses.{status_of};
 
 use crate::document::has_chart;
-use crate::entry::ReadFault;
 use crate::log_reading::{Judged, Wanted, judge_entry};
 use crate::opening::{Opened, open_document};
 use chart_judge::Next;
+use entry_reading::ReadFault;
 use event_log::LogForm;
 use judge_report::{Fault, fault_text, next_text, verdict_text};
 use msc_acceptance::Accepted;
@@ -56,7 +57,7 @@ pub fn make_reply(alloc: Global, status: u8, fault: &Fault, json: bool) -> Resul
 }
 
 /// The status of a verdict.
-fn status_for(verdict: &Verdict) -> u8
+pub fn status_for(verdict: &Verdict) -> u8
     ensures status { result ≡ status_of verdict.now }
     ensures not_two { result ≡ 2 → ⊥ }
 {
@@ -139,7 +140,7 @@ fn judge_log<S: Shelf>(
     ensures later { S.faults shelf.old ≤ S.faults shelf.new }
     ensures small { IfOk result (λ r. r.status ≤ 7) }
     ensures not_two { IfOk result (λ r. r.status ≡ 2 → ⊥) }
-    ensures outcome { IfOk result (λ r. r.status < 7 → IfTold (S.files shelf.old) (λ f. IsTheOne (EntryOutcome style.wanted style.form style.budget style.json f (table_view accepted.now) chart.now log.now) r.status r.text)) }
+    ensures outcome { IfOk result (λ r. r.status < 7 → IfTold (S.files shelf.old) (λ f. IsTheOne (EntryOutcome f log.now (LogAnswer style.wanted style.form style.budget style.json chart.now (table_view accepted.now))) r.status r.text)) }
     ensures failed { IfOk result (λ r. r.status ≡ 7 → FailedAt (S.faults shelf.old) (S.faults shelf.new) (S.broken shelf.new) (S.last shelf.new) log.now) }
     ensures text { IfOk result (λ r. r.status ≡ 7 → r.text ≡ fault_line style.json LogRead) }
 {
@@ -174,7 +175,7 @@ pub fn judge_files<S: Shelf>(
     requires most { style.budget ≤ BUDGET_MOST }
     ensures small { IfOk result (λ r. r.status ≤ 7) }
     ensures not_two { IfOk result (λ r. r.status ≡ 2 → ⊥) }
-    ensures outcome { IfOk result (λ r. r.status < 7 → IfTold (S.files shelf.old) (λ f. IsTheOne (FilesOutcome style.wanted style.form style.budget style.json f document.now name.now log.now) r.status r.text)) }
+    ensures outcome { IfOk result (λ r. r.status < 7 → IfTold (S.files shelf.old) (λ f. IsTheOne (FilesOutcome style.json f document.now name.now log.now (LogAnswer style.wanted style.form style.budget style.json name.now)) r.status r.text)) }
     ensures failed { IfOk result (λ r. r.status ≡ 7 → CannotRead style.json (S.files shelf.old) (S.faults shelf.old) (S.faults shelf.new) (S.broken shelf.new) (S.last shelf.new) document.now name.now log.now r.text) }
 {
     let accepted = match open_document(alloc, document, style.json, shelf)? {

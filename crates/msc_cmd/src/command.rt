@@ -15,6 +15,7 @@ use crate::listing::list_file;
 use crate::log_reading::Wanted;
 use crate::printing::print_file;
 use crate::sampling::sample_reply;
+use crate::sessions::sessions_files;
 use event_log::LogForm;
 use judge_report::{Fault, emit};
 use msc_base::{NoMemory, Words};
@@ -62,6 +63,13 @@ fn serve<S: Shelf>(alloc: Global, request: &Request, shelf: &mut S) -> Result<Re
             };
             judge_files(alloc, document, chart, log, style, shelf)
         }
+        Request::Sessions {
+            document,
+            chart,
+            log,
+            budget,
+            form,
+        } => sessions_files(alloc, document, chart, log, *form, *budget, shelf),
         Request::Check { document, json } => check_file(alloc, document, *json, shelf),
         Request::List {
             document,
@@ -94,13 +102,13 @@ fn answer<S: Shelf>(alloc: Global, words: &Words, shelf: &mut S) -> Result<Reply
 ///
 /// | Status | Meaning |
 /// |---|---|
-/// | 0 | the log conforms, also that of a sample; what may come next in it is listed; the document is accepted, listed or printed |
-/// | 1 | the log fails at an event |
+/// | 0 | the log conforms, also that of a sample, and so does each of its sessions; what may come next in it is listed; the document is accepted, listed or printed |
+/// | 1 | the log fails at an event, or a session does |
 /// | 2 | the words are no request |
-/// | 3 | the log stops early |
+/// | 3 | the log stops early, or a session does, and none fails or is too large |
 /// | 4 | the document is refused, or it has no chart of that name |
 /// | 5 | the log is refused |
-/// | 6 | what is left of the chart's term after an event passes the budget |
+/// | 6 | what is left of the chart's term after an event passes the budget, or in a session, and none fails |
 /// | 7 | the shelf failed |
 /// | 8 | the sink failed |
 /// | 9 | want of memory |

@@ -19,7 +19,7 @@ pub struct Intake {
 
 impl Intake {
     ghost use Rattle.std.specs.Prelude.{◌≡◌, ◌≤◌, ◌+◌, ◌++◌, [], ℕ, List, length, IfOk, OnOk};
-    ghost use Rattle.msc_cmd.specs.declared.entry.TheConstants.{PIECE_BYTES};
+    ghost use Rattle.entry_reading.specs.declared.entry.TheConstants.{PIECE_BYTES};
     ghost use Rattle.msc_cmd.specs.Intakes.{HasTaken};
 
     /// A document of which nothing has been read.

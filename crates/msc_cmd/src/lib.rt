@@ -8,7 +8,6 @@ mod checking;
 mod command;
 mod document;
 mod document_text;
-mod entry;
 mod intake;
 mod listing;
 mod log_reading;
@@ -17,5 +16,7 @@ mod printing;
 mod reading;
 mod sample_log;
 mod sampling;
+mod session_reading;
+mod sessions;
 
 pub use command::run;

@@ -1,23 +1,22 @@
 //! Reads a log from the shelf, piece by piece, and judges it as it comes, up to its end or a fault: for `answer`.
 
-ghost use Rattle.std.specs.Prelude.{◌≡◌, ◌<◌, ◌≤◌, ℕ, List, [], Option, Some, IfOk, IsErrOf, IsTrue, true};
+ghost use Rattle.std.specs.Prelude.{◌≡◌, ◌≤◌, ℕ, List, Option, Some, IfOk, IsErrOf, true};
 ghost use Rattle.outside.specs.Causes.{Rose};
 ghost use Rattle.outside.specs.Shelves.{Files};
-ghost use Rattle.event_log.specs.declared.event.LogForm.{LogForm as Form};
 ghost use Rattle.msc_base.specs.declared.limits.TheConstants.Limits.{BUDGET_MOST};
 ghost use Rattle.msc_acceptance.specs.AcceptedCharts.{IsAcceptedTable};
-ghost use Rattle.msc_meaning.specs.Tables.{Table};
 ghost use Rattle.msc_meaning.specs.Views.{table_view};
 ghost use Rattle.msc_cmd.specs.Documents.{HasChartNamed};
-ghost use Rattle.msc_cmd.specs.LogJudging.{IsJudgedLog, IsReadingLog, IsStep, IsWanted};
+ghost use Rattle.entry_reading.specs.Consuming.{HasTakenEntry};
+ghost use Rattle.msc_cmd.specs.LogJudging.{IsFed, IsJudgedLog, IsWanted, JudgeSetting};
 ghost use Rattle.msc_cmd.specs.declared.log_reading.Wanted.TheVariants.{TheVerdict, NextLabels};
 
-use crate::entry::{PIECE_BYTES, ReadFault, read_piece, start_entry};
 use chart_judge::{ChartJudge, Next};
+use entry_reading::{Consumer, ReadFault, read_entry};
 use event_log::{LogFault, LogForm};
 use log_judge::JudgeFault;
 use msc_acceptance::Accepted;
-use msc_base::{Text, Verdict};
+use msc_base::{NoMemory, Text, Verdict};
 use outside::Shelf;
 use std::alloc::Global;
 
@@ -41,51 +40,43 @@ pub enum Judged {
     Refused(LogFault),
 }
 
-/// What came of one read.
-#[derive(Clone, Copy, Debug, PartialEq, Eq)]
-pub enum Step {
-    /// A piece, and more may follow.
-    More,
-    /// The end of the entry.
-    End,
-    /// A piece in which this fault of the log is decided.
-    Fault(LogFault),
+/// A judge, as what takes the log that is read.
+#[derive(Drop)]
+struct FedJudge {
+    judge: ChartJudge,
 }
 
-/// Reads once, and judges what came.
-fn take_more<S: Shelf>(
-    shelf: &mut S,
-    name: &Text,
-    judge: &mut ChartJudge,
-) -> Result<Step, ReadFault>
-    requires begun { IsTrue (S.begun shelf.old) }
-    requires last { S.last shelf.old ≡ Some name.now }
+impl Consumer for FedJudge {
+    type Refusal = LogFault;
 
-    ensures files { S.files shelf.new ≡ S.files shelf.old }
-    ensures begun { S.begun shelf.new ≡ S.begun shelf.old }
-    ensures last { S.last shelf.new ≡ S.last shelf.old }
-    ensures later { S.faults shelf.old ≤ S.faults shelf.new }
-    ensures step { (table : Table) (chart : List ℕ) (form : Form) (budget : ℕ) → IsReadingLog table chart form budget (S.files shelf.old) name.now (S.rest shelf.old) judge.old
-        → IfOk result (IsStep table chart form budget (S.files shelf.new) name.now (S.rest shelf.new) judge.old.reader.count judge.new) }
-    ensures failed { IsErrOf result ReadFault.Failed → Rose (S.faults shelf.old) (S.faults shelf.new) }
-    ensures broken { IsErrOf result ReadFault.Failed → S.broken shelf.new ≡ true }
-{
-    let mut buf = [0u8; PIECE_BYTES];
-    let piece = read_piece(shelf, &mut buf)?;
-    if piece.is_empty() {
-        return Ok(Step::End);
-    }
-    match judge.feed(piece) {
-        Ok(()) => Ok(Step::More),
-        Err(JudgeFault::NoMemory) => Err(ReadFault::NoMemory),
-        Err(JudgeFault::Log(fault)) => Ok(Step::Fault(fault)),
+    ghost use Rattle.msc_base.specs.declared.limits.TheConstants.Limits.{LOG_BYTES};
+    ghost use Rattle.msc_cmd.specs.LogJudging.{JudgeSetting, IsFed, IsRefusedLog, fed_counts};
+
+    ghost Setting = { JudgeSetting };
+
+    ghost has_taken = { λ setting bytes fed. IsFed setting bytes fed.judge };
+
+    ghost refuses = { λ setting bytes fault. IsRefusedLog setting.form bytes fault };
+
+    ghost count = { λ fed. fed.judge.reader.count };
+
+    ghost most = { LOG_BYTES };
+
+    ghost counts = { λ setting bytes fed taken. fed_counts setting bytes fed.judge taken };
+
+    fn take(&mut self, piece: &[u8]) -> Result<Option<LogFault>, NoMemory> {
+        match self.judge.feed(piece) {
+            Ok(()) => Ok(None),
+            Err(JudgeFault::Log(fault)) => Ok(Some(fault)),
+            Err(JudgeFault::NoMemory) => Err(NoMemory),
+        }
     }
 }
 
 /// The verdict on the log that has been read.
 fn verdict_of(judge: ChartJudge) -> Result<Judged, ReadFault>
-    ensures log { (table : Table) (chart : List ℕ) (form : Form) (budget : ℕ) (files : Option Files) (name : List ℕ) → IsReadingLog table chart form budget files name (Some []) judge
-        → IfOk result (IsJudgedLog table chart form budget files name) }
+    ensures log { (setting : JudgeSetting) (files : Option Files) (name : List ℕ) → HasTakenEntry (IsFed setting) files name judge
+        → IfOk result (IsJudgedLog setting files name) }
     ensures wanted { IfOk result (IsWanted TheVerdict) }
     ensures failed { IsErrOf result ReadFault.Failed → ⊥ }
 {
@@ -98,8 +89,8 @@ fn verdict_of(judge: ChartJudge) -> Result<Judged, ReadFault>
 
 /// What may come next in the log that has been read.
 fn next_of(judge: ChartJudge) -> Result<Judged, ReadFault>
-    ensures log { (table : Table) (chart : List ℕ) (form : Form) (budget : ℕ) (files : Option Files) (name : List ℕ) → IsReadingLog table chart form budget files name (Some []) judge
-        → IfOk result (IsJudgedLog table chart form budget files name) }
+    ensures log { (setting : JudgeSetting) (files : Option Files) (name : List ℕ) → HasTakenEntry (IsFed setting) files name judge
+        → IfOk result (IsJudgedLog setting files name) }
     ensures wanted { IfOk result (IsWanted NextLabels) }
     ensures failed { IsErrOf result ReadFault.Failed → ⊥ }
 {
@@ -112,8 +103,8 @@ fn next_of(judge: ChartJudge) -> Result<Judged, ReadFault>
 
 /// What the log that has been read comes to, by what is wanted of it.
 fn ended(judge: ChartJudge, wanted: Wanted) -> Result<Judged, ReadFault>
-    ensures log { (table : Table) (chart : List ℕ) (form : Form) (budget : ℕ) (files : Option Files) (name : List ℕ) → IsReadingLog table chart form budget files name (Some []) judge
-        → IfOk result (IsJudgedLog table chart form budget files name) }
+    ensures log { (setting : JudgeSetting) (files : Option Files) (name : List ℕ) → HasTakenEntry (IsFed setting) files name judge
+        → IfOk result (IsJudgedLog setting files name) }
     ensures wanted { IfOk result (IsWanted wanted) }
     ensures failed { IsErrOf result ReadFault.Failed → ⊥ }
 {
@@ -140,19 +131,16 @@ pub fn judge_entry<S: Shelf>(
     requires most { budget ≤ BUDGET_MOST }
     ensures files { S.files shelf.new ≡ S.files shelf.old }
     ensures later { S.faults shelf.old ≤ S.faults shelf.new }
-    ensures log { IfOk result (IsJudgedLog (table_view accepted.now) chart.now form budget (S.files shelf.old) name.now) }
+    ensures log { IfOk result (IsJudgedLog (record { table = table_view accepted.now; chart = chart.now; form = form; budget = budget }) (S.files shelf.old) name.now) }
     ensures wanted { IfOk result (IsWanted wanted) }
     ensures failed { IsErrOf result ReadFault.Failed → Rose (S.faults shelf.old) (S.faults shelf.new) }
     ensures broken { IsErrOf result ReadFault.Failed → S.broken shelf.new ≡ true }
     ensures last { IsErrOf result ReadFault.Failed → S.last shelf.new ≡ Some name.now }
 {
-    start_entry(alloc, shelf, name)?;
-    let mut judge = ChartJudge::new(alloc, accepted, chart, form, budget)?;
-    loop {
-        match take_more(shelf, name, &mut judge)? {
-            Step::More => {}
-            Step::End => return ended(judge, wanted),
-            Step::Fault(fault) => return Ok(Judged::Refused(fault)),
-        }
+    let judge = ChartJudge::new(alloc, accepted, chart, form, budget)?;
+    let mut fed = FedJudge { judge };
+    match read_entry(alloc, shelf, name, &mut fed)? {
+        None => ended(fed.judge, wanted),
+        Some(fault) => Ok(Judged::Refused(fault)),
     }
 }

@@ -5,8 +5,8 @@ ghost use Rattle.msc_cmd.specs.Openings.{IsOpened};
 
 use crate::answer::{Reply, make_reply};
 use crate::document::Document;
-use crate::entry::ReadFault;
 use crate::reading::take_document;
+use entry_reading::ReadFault;
 use judge_report::Fault;
 use msc_acceptance::Accepted;
 use msc_base::{NoMemory, Text};

@@ -6,8 +6,8 @@ ghost use Rattle.msc_cmd.specs.Outcomes.{IfTold, IsTheOne, PrintOutcome};
 
 use crate::answer::{Reply, make_reply};
 use crate::document_text::DocumentText;
-use crate::entry::ReadFault;
 use crate::reading::take_text;
+use entry_reading::ReadFault;
 use judge_report::Fault;
 use msc_base::{NoMemory, Text};
 use msc_print::print_document;

@@ -7,8 +7,8 @@ ghost use Rattle.msc_cmd.specs.Intakes.{IsReading, HoldsDocument, IsDocumentOf, 
 
 use crate::document::{Document, settle};
 use crate::document_text::{DocumentText, text_of};
-use crate::entry::{PIECE_BYTES, ReadFault, read_piece, start_entry};
 use crate::intake::Intake;
+use entry_reading::{PIECE_BYTES, ReadFault, read_piece, start_entry};
 use msc_base::{Limits, NoMemory, Text};
 use msc_document::{documents_are_exact, graphs_are_formed};
 use outside::Shelf;

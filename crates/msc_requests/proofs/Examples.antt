@@ -3,7 +3,7 @@ use Rattle.std.proofs.Common.{◌≡◌, refl, codes, true, false, [], ◌∷◌
 use Rattle.std.specs.Str.{is_utf8}
 use Rattle.clap.proofs.OnLiterals.{clap_on_literals}
 use Rattle.event_log.specs.declared.event.LogForm.TheVariants.{Lines, Json}
-use Rattle.msc_requests.specs.declared.request.Request.TheVariants.{Judge, Next, Check, List, Print, Sample}
+use Rattle.msc_requests.specs.declared.request.Request.TheVariants.{Judge, Next, Sessions, Check, List, Print, Sample}
 use Rattle.msc_requests.specs.Requests.{request_of}
 
 -- three words
@@ -344,3 +344,27 @@ no_next_json = refl
 no_next_log_json : request_of (codes "next" ∷ codes "d" ∷ codes "A" ∷ codes "l" ∷ codes "--log-json" ∷ []) ≡ None
 unfolding clap_on_literals is_utf8
 no_next_log_json = refl
+
+-- ---- sessions
+
+sessions_plain : request_of (codes "sessions" ∷ codes "d" ∷ codes "A" ∷ codes "l" ∷ []) ≡ Some (Sessions (codes "d") (codes "A") (codes "l") 10000 Lines)
+unfolding clap_on_literals is_utf8
+sessions_plain = refl
+
+sessions_json_log : request_of (codes "sessions" ∷ codes "d" ∷ codes "--log-json" ∷ codes "A" ∷ codes "l" ∷ codes "--budget=20000" ∷ []) ≡ Some (Sessions (codes "d") (codes "A") (codes "l") 20000 Json)
+unfolding clap_on_literals is_utf8
+sessions_json_log = refl
+
+-- a session has a smaller budget than a log
+sessions_budget_above : request_of (codes "sessions" ∷ codes "d" ∷ codes "A" ∷ codes "l" ∷ codes "--budget" ∷ codes "20001" ∷ []) ≡ None
+unfolding clap_on_literals is_utf8
+sessions_budget_above = refl
+
+sessions_no_budget : request_of (codes "sessions" ∷ codes "d" ∷ codes "A" ∷ codes "l" ∷ codes "--budget" ∷ codes "0" ∷ []) ≡ None
+unfolding clap_on_literals is_utf8
+sessions_no_budget = refl
+
+-- the answer has no form of its own in JSON
+no_sessions_json : request_of (codes "sessions" ∷ codes "d" ∷ codes "A" ∷ codes "l" ∷ codes "--json" ∷ []) ≡ None
+unfolding clap_on_literals is_utf8
+no_sessions_json = refl

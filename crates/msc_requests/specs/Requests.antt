@@ -10,11 +10,11 @@ use Rattle.msc_base.specs.declared.limits.TheConstants.Limits.{BUDGET_DEFAULT, B
 use Rattle.event_log.specs.declared.event.LogForm.{LogForm}
 use Rattle.event_log.specs.declared.event.LogForm.TheVariants.{Lines, Json}
 use Rattle.msc_requests.specs.declared.request.Request.{Request}
-use Rattle.msc_requests.specs.declared.request.Request.TheVariants.{Judge, Next, Check, Print, Sample}
+use Rattle.msc_requests.specs.declared.request.Request.TheVariants.{Judge, Next, Sessions, Check, Print, Sample}
 use Rattle.msc_requests.specs.declared.request.Request.TheVariants as requests
 use Rattle.msc_requests.specs.declared.request.WordFault.{WordFault}
 use Rattle.msc_requests.specs.declared.request.WordFault.TheVariants.{NoRequest, NoMemory}
-use Rattle.msc_requests.specs.declared.request.TheConstants.{MOST_SEED, MOST_TURNS}
+use Rattle.msc_requests.specs.declared.request.TheConstants.{MOST_SEED, MOST_TURNS, SESSION_BUDGET_DEFAULT, SESSION_BUDGET_MOST}
 
 -- a word that has to be there
 abbrev pub wanted : List ℕ → Rule
@@ -45,6 +45,10 @@ judge_app =
 -- next DOC CHART LOG [--budget N]
 abbrev pub next_app : App
 next_app = with_rule (with_rule (with_rule (with_rule (bare (codes "next")) (wanted (codes "document"))) (wanted (codes "chart"))) (wanted (codes "log"))) (valued (codes "budget"))
+
+-- sessions DOC CHART LOG [--budget N] [--log-json]
+abbrev pub sessions_app : App
+sessions_app = with_rule (with_rule (with_rule (with_rule (with_rule (bare (codes "sessions")) (wanted (codes "document"))) (wanted (codes "chart"))) (wanted (codes "log"))) (valued (codes "budget"))) (flag (codes "log-json"))
 
 -- check DOC [--json]
 abbrev pub check_app : App
@@ -90,6 +94,10 @@ number_in digits least most text = if is_number digits text then (if is_between 
 abbrev pub budget_in : List ℕ → Option ℕ
 budget_in text = number_in 7 1 BUDGET_MOST text
 
+-- that of a session too
+abbrev pub session_budget_in : List ℕ → Option ℕ
+session_budget_in text = number_in 7 1 SESSION_BUDGET_MOST text
+
 -- the turns and the seed of a sample have one to ten
 abbrev pub turns_in : List ℕ → Option ℕ
 turns_in text = number_in 10 1 MOST_TURNS text
@@ -101,6 +109,11 @@ seed_in text = number_in 10 0 MOST_SEED text
 abbrev pub budget_from : Option (List ℕ) → Option ℕ
 budget_from None = Some BUDGET_DEFAULT
 budget_from (Some text) = budget_in text
+
+-- the same of a session
+abbrev pub session_budget_from : Option (List ℕ) → Option ℕ
+session_budget_from None = Some SESSION_BUDGET_DEFAULT
+session_budget_from (Some text) = session_budget_in text
 
 -- the request to judge, from what each argument was given
 abbrev pub request_from : Option (List ℕ) → Option (List ℕ) → Option (List ℕ) → Option (List ℕ) → Option (List ℕ) → Option (List ℕ) → Option Request
@@ -127,6 +140,18 @@ next_from document chart log budget = do
 
 abbrev pub next_in : List Row → Option Request
 next_in rows = next_from (first_of (codes "document") rows) (first_of (codes "chart") rows) (first_of (codes "log") rows) (first_of (codes "budget") rows)
+
+-- of the request to judge sessions
+abbrev pub sessions_from : Option (List ℕ) → Option (List ℕ) → Option (List ℕ) → Option (List ℕ) → Option (List ℕ) → Option Request
+sessions_from document chart log budget log_json = do
+  d ← document
+  c ← chart
+  l ← log
+  b ← session_budget_from budget
+  Some (Sessions d c l b (form_of (is_true log_json)))
+
+abbrev pub sessions_in : List Row → Option Request
+sessions_in rows = sessions_from (first_of (codes "document") rows) (first_of (codes "chart") rows) (first_of (codes "log") rows) (first_of (codes "budget") rows) (first_of (codes "log-json") rows)
 
 -- of the request to check
 abbrev pub check_from : Option (List ℕ) → Option (List ℕ) → Option Request
@@ -184,6 +209,9 @@ judge_request words = request_by judge_app request_in words
 abbrev pub next_request : List (List ℕ) → Option Request
 next_request words = request_by next_app next_in words
 
+abbrev pub sessions_request : List (List ℕ) → Option Request
+sessions_request words = request_by sessions_app sessions_in words
+
 abbrev pub check_request : List (List ℕ) → Option Request
 check_request words = request_by check_app check_in words
 
@@ -205,6 +233,7 @@ command_request command words =
     else if bytes_eq command (codes "print") then print_request words
     else if bytes_eq command (codes "sample") then sample_request words
     else if bytes_eq command (codes "next") then next_request words
+    else if bytes_eq command (codes "sessions") then sessions_request words
     else None
 
 -- the request that the words make, or none
@@ -225,6 +254,7 @@ Answers request (Err NoMemory) = Unit {0}
 abbrev pub IsBounded : Request → Type 0
 IsBounded (Judge document chart log budget json form) = (1 ≤ budget) × (budget ≤ BUDGET_MOST)
 IsBounded (Next document chart log budget) = (1 ≤ budget) × (budget ≤ BUDGET_MOST)
+IsBounded (Sessions document chart log budget form) = (1 ≤ budget) × (budget ≤ SESSION_BUDGET_MOST)
 IsBounded (Check document json) = Unit {0}
 IsBounded (requests.List document chart json) = Unit {0}
 IsBounded (Print document) = Unit {0}

@@ -9,6 +9,12 @@ pub const MOST_TURNS: u64 = 250_000;
 /// The greatest seed. No number that is drawn is greater.
 pub const MOST_SEED: u64 = 2_147_483_647;
 
+/// The greatest budget of a session.
+pub const SESSION_BUDGET_MOST: u64 = 20_000;
+
+/// The budget of a session, where none is asked for.
+pub const SESSION_BUDGET_DEFAULT: u64 = 10_000;
+
 /// What the words ask for.
 #[derive(Drop)]
 pub enum Request {
@@ -27,6 +33,15 @@ pub enum Request {
         chart: Text,
         log: Text,
         budget: u64,
+    },
+    /// Judge each session of this log by itself, by this chart of this document.
+    Sessions {
+        document: Text,
+        chart: Text,
+        log: Text,
+        /// That of each session.
+        budget: u64,
+        form: LogForm,
     },
     /// Say whether this document is accepted.
     Check {

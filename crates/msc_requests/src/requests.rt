@@ -4,15 +4,18 @@ ghost use Rattle.std.specs.Prelude.{◌≡◌, IfOk, IfNone, IfSome, IsErrOf, ma
 ghost use Rattle.std.specs.List.{list_all};
 ghost use Rattle.std.specs.Str.{is_utf8};
 ghost use Rattle.clap.specs.Words.{app_of, found_of, is_simple, is_simple_and_free, rows_of};
-ghost use Rattle.msc_requests.specs.Requests.{Answers, HasNoRequest, IsFound, budget_from, check_from, check_in, check_request, command_request, form_of, is_true, judge_request, list_from, list_in, list_request, next_from, next_in, next_request, print_from, print_in, print_request, request_from, request_in, request_of as request_in_words, sample_from, sample_in, sample_request, seed_in, turns_in};
-ghost use Rattle.msc_requests.specs.declared.request.Request.TheVariants.{Judge, List, Next};
+ghost use Rattle.msc_requests.specs.Requests.{Answers, HasNoRequest, IsFound, budget_from, check_from, check_in, check_request, command_request, form_of, is_true, judge_request, list_from, list_in, list_request, next_from, next_in, next_request, print_from, print_in, print_request, request_from, request_in, request_of as request_in_words, sample_from, sample_in, sample_request, seed_in, session_budget_from, sessions_from, sessions_in, sessions_request, turns_in};
+ghost use Rattle.msc_requests.specs.declared.request.Request.TheVariants.{Judge, List, Next, Sessions};
 ghost use Rattle.msc_requests.specs.declared.request.WordFault.TheVariants.{NoRequest};
 
 use crate::commands::{
     check_command, judge_command, list_command, next_command, print_command, sample_command,
+    sessions_command,
 };
 use crate::numbers::number_in;
-use crate::request::{MOST_SEED, MOST_TURNS, Request, WordFault};
+use crate::request::{
+    MOST_SEED, MOST_TURNS, Request, SESSION_BUDGET_DEFAULT, SESSION_BUDGET_MOST, WordFault,
+};
 use clap::error::ErrorKind;
 use clap::{ArgMatches, Command};
 use event_log::LogForm;
@@ -53,6 +56,16 @@ fn budget_given(text: Option<&str>) -> Option<u64>
     match text {
         None => Some(Limits::BUDGET_DEFAULT),
         Some(text) => number_in(text, BUDGET_DIGITS, 1, Limits::BUDGET_MOST),
+    }
+}
+
+/// The budget of a session that is asked for, or the one that stands where none is.
+fn session_budget_given(text: Option<&str>) -> Option<u64>
+    ensures { result ≡ session_budget_from (option_map (λ s. s.now) text.entry) }
+{
+    match text {
+        None => Some(SESSION_BUDGET_DEFAULT),
+        Some(text) => number_in(text, BUDGET_DIGITS, 1, SESSION_BUDGET_MOST),
     }
 }
 
@@ -159,6 +172,60 @@ fn next_of_texts(
         return Err(WordFault::NoRequest);
     };
     match next_of(alloc, document, chart, log, budget) {
+        Ok(request) => Ok(request),
+        Err(_) => Err(WordFault::NoMemory),
+    }
+}
+
+/// The request to judge sessions, with texts of its own.
+fn sessions_of(
+    alloc: Global,
+    document: &str,
+    chart: &str,
+    log: &str,
+    budget: u64,
+    form: LogForm,
+) -> Result<Request, NoMemory>
+    ensures { IfOk result (λ r. r ≡ Sessions document.now chart.now log.now budget form) }
+{
+    let document = Text::from_bytes(alloc, document.as_bytes())?;
+    let chart = Text::from_bytes(alloc, chart.as_bytes())?;
+    let log = Text::from_bytes(alloc, log.as_bytes())?;
+    Ok(Request::Sessions {
+        document,
+        chart,
+        log,
+        budget,
+        form,
+    })
+}
+
+/// The request to judge sessions, from what each argument was given.
+fn sessions_of_texts(
+    alloc: Global,
+    document: Option<&str>,
+    chart: Option<&str>,
+    log: Option<&str>,
+    budget: Option<&str>,
+    log_json: Option<&str>,
+) -> Result<Request, WordFault>
+    ensures { Answers (sessions_from (option_map (λ s. s.now) document.entry) (option_map (λ s. s.now) chart.entry) (option_map (λ s. s.now) log.entry)
+        (option_map (λ s. s.now) budget.entry) (option_map (λ s. s.now) log_json.entry)) result }
+{
+    let Some(document) = document else {
+        return Err(WordFault::NoRequest);
+    };
+    let Some(chart) = chart else {
+        return Err(WordFault::NoRequest);
+    };
+    let Some(log) = log else {
+        return Err(WordFault::NoRequest);
+    };
+    let Some(budget) = session_budget_given(budget) else {
+        return Err(WordFault::NoRequest);
+    };
+    let form = form_given(log_json);
+    match sessions_of(alloc, document, chart, log, budget, form) {
         Ok(request) => Ok(request),
         Err(_) => Err(WordFault::NoMemory),
     }
@@ -290,6 +357,20 @@ fn next_of_matches(alloc: Global, matches: &ArgMatches) -> Result<Request, WordF
     )
 }
 
+/// The request to judge sessions in what `clap` found.
+fn sessions_of_matches(alloc: Global, matches: &ArgMatches) -> Result<Request, WordFault>
+    ensures { Answers (sessions_in (rows_of (found_of matches.now))) result }
+{
+    sessions_of_texts(
+        alloc,
+        matches.get_str("document"),
+        matches.get_str("chart"),
+        matches.get_str("log"),
+        matches.get_str("budget"),
+        matches.get_str("log-json"),
+    )
+}
+
 /// The request to check in what `clap` found.
 fn check_of_matches(alloc: Global, matches: &ArgMatches) -> Result<Request, WordFault>
     ensures { Answers (check_in (rows_of (found_of matches.now))) result }
@@ -361,6 +442,17 @@ fn next_words(alloc: Global, words: &[&str]) -> Result<Request, WordFault>
     next_of_matches(alloc, &matches)
 }
 
+/// The request that the words behind `sessions` make.
+fn sessions_words(alloc: Global, words: &[&str]) -> Result<Request, WordFault>
+    ensures { Answers (sessions_request (map (λ w. w.now) words.entry.now)) result }
+{
+    let Ok(command) = sessions_command(alloc) else {
+        return Err(WordFault::NoMemory);
+    };
+    let matches = matches_in(command, words)?;
+    sessions_of_matches(alloc, &matches)
+}
+
 /// The request that the words behind `check` make.
 fn check_words(alloc: Global, words: &[&str]) -> Result<Request, WordFault>
     ensures { Answers (check_request (map (λ w. w.now) words.entry.now)) result }
@@ -426,6 +518,9 @@ fn command_words(alloc: Global, command: &Text, words: &[&str]) -> Result<Reques
     }
     if is_text(command.bytes(), "next") {
         return next_words(alloc, words);
+    }
+    if is_text(command.bytes(), "sessions") {
+        return sessions_words(alloc, words);
     }
     Err(WordFault::NoRequest)
 }

@@ -1,10 +1,10 @@
-//! How an entry of the shelf is started and read piece by piece, and why one wasn't read: for the modules that read, and those that answer for it.
+//! How an entry of the shelf is started and read piece by piece, and why one was not read.
 
 ghost use Rattle.std.specs.Prelude.{◌≡◌, ◌<◌, ◌≤◌, ◌++◌, ℕ, List, [], length, IsErrOf, IsTrue, IfOk, OnOk, Some, true};
 ghost use Rattle.outside.specs.Causes.{Rose};
 ghost use Rattle.outside.specs.Shelves.{Opens};
-ghost use Rattle.msc_cmd.specs.Reading.{HasRead};
-ghost use Rattle.msc_cmd.specs.declared.entry.ReadFault.TheVariants.{NoMemory};
+ghost use Rattle.entry_reading.specs.Reading.{HasRead};
+ghost use Rattle.entry_reading.specs.declared.entry.ReadFault.TheVariants.{NoMemory};
 
 use msc_base::{NoMemory, Text};
 use outside::{Failed, Shelf};
