@@ -46,7 +46,8 @@ def exchange(first, second, mark):
     return lines + [f"{first}: action 'done';"]
 
 
-def large(times):
+def large_chart():
+    """20,000 events in 400 choices, and a log."""
     instances, items, log = [f"n{number}" for number in range(20)], [], []
     for number in range(400):
         first, second = instances[number % 20], instances[(7 * number + 1) % 20]
@@ -55,14 +56,23 @@ def large(times):
         operands = [exchange(first, second, mark) for mark in "ab"]
         items.append(f"{first},{second}: alt begin;\n" + "\n".join(operands[0]) + "\nalt;\n" + "\n".join(operands[1]) + "\nalt end;")
         log += operands[number % 2]
-    one = measure(times, "large", chart("L", instances, items))
+    return chart("L", instances, items), log
+
+
+def large(times):
+    document, log = large_chart()
+    one = measure(times, "large", document)
     one("check d", "", "accepted, charts 1")
     one("judge d L l", "".join(line + "\n" for line in log), f"conforms, events {len(log)}")
 
 
+def with_exceptions(count):
+    return chart("E", "i", ["i: exc begin; i: action 'x'; exc end; i: action 'y';"] * count)
+
+
 def exceptions(times):
     for count in (2_000, 22_000):
-        one = measure(times, f"exceptions {count:,}", chart("E", "i", ["i: exc begin; i: action 'x'; exc end; i: action 'y';"] * count))
+        one = measure(times, f"exceptions {count:,}", with_exceptions(count))
         one("check d", "", "accepted, charts 1")
         one("judge d E l", "i: action 'y';\n" * count, f"conforms, events {count}")
 

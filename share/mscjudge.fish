@@ -2,6 +2,7 @@
 complete -c mscjudge -f -n __fish_use_subcommand -a judge -d 'reads the files DOC and LOG, and judges the log by the chart CHART of the document'
 complete -c mscjudge -f -n __fish_use_subcommand -a next -d 'reads the files DOC and LOG, a log in the text form, and lists each event that may come next in it by the chart CHART, as a line of a log; if no run of the chart begins with the log, it answers as judge does'
 complete -c mscjudge -f -n __fish_use_subcommand -a sessions -d 'reads the files DOC and LOG, a log of many sessions, and judges each session by the chart CHART by itself: a line begins with the key of its session and =, and in JSON it has the member session; the budget is that of each session'
+complete -c mscjudge -f -n __fish_use_subcommand -a choices -d 'lists each alternative, option and exception of the chart CHART that may begin at more than one instance, with its place and these instances; in such a place no instance knows alone which way is taken'
 complete -c mscjudge -f -n __fish_use_subcommand -a check -d 'reads the file DOC, and says how many charts it has, or which rule it breaks first'
 complete -c mscjudge -f -n __fish_use_subcommand -a list -d 'lists the charts of the document, each with its kind and the number of its instances, or the instances of the chart CHART in the order of the text'
 complete -c mscjudge -f -n __fish_use_subcommand -a print -d 'prints the document in its canonical form; it looks at no rule of charts'

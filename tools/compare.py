@@ -15,6 +15,7 @@ under way, and runs damaged at a random place, in text or JSON, and some are jud
 one less. What is a run, or the beginning of one, is also known here without the model, so a model that errs there is found. What may come next is
 asked behind each log in text, within the same budgets, and behind the beginning of a run, whose next event has to be told; the log has to go on
 with an event that is told. Some such runs, damaged or not, are also mixed in one log, as sessions; each has to be told as it was made.
+Of each chart the choices that several instances make are asked too.
 
 Each difference is printed with what it takes to see it again: document K of a seed is made alone by `--first K --documents 1`. At the
 end stands how often each answer came. It ends with status 1 where there is a difference.
@@ -262,6 +263,12 @@ def compare_sessions(rng, both, chart):
         both.differ(words, (f"made for sessions of the statuses {statuses}, and the model says", (status, text)))
 
 
+def compare_choices(both, chart):
+    """Compares the choices of the chart that several instances make."""
+    status, text = both.compare("choices", "d", chart.name)
+    both.told["no choices" if text == "choices 0\n" else "choices" if status == 0 else verdict_of(text)] += 1
+
+
 def line_of(event):
     """The line by which an event is told that may come next."""
     words = re.sub("^set ", "starttimer ", re.sub("^reset ", "stoptimer ", event.words(False)))
@@ -285,6 +292,7 @@ def compare_document(rng, both):
             compare_log(rng, both, chart)
             compare_goings_on(rng, both, chart)
         compare_sessions(rng, both, chart)
+        compare_choices(both, chart)
     return "accepted"
 
 

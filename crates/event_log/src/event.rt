@@ -1,4 +1,4 @@
-//! Form and version of a log, and its faults: what msc_cmd and chart_judge see of logs beside its events.
+//! Form and version of a log, and its faults: what msc_cmd and log_judge see of logs beside its events.
 
 ghost use Rattle.std.specs.Prelude.{◌≡◌};
 ghost use Rattle.event_log.specs.Faults.{IsLogFault, fault_text};

@@ -1,4 +1,4 @@
-//! Numbers of labels, as `line_memory` asks for them once for each line that it keeps: chart_judge answers by the tables of a chart's term.
+//! Numbers of labels, as `line_memory` asks for them once for each line that it keeps: log_judge answers by the tables of a chart's term.
 
 ghost use Rattle.std.specs.Prelude.{◌≡◌, List};
 ghost use Rattle.label_table.specs.Labels.{label_number};

@@ -1,4 +1,4 @@
-//! The reader of a log of any kind in pieces: cuts it into lines and hands out events. chart_judge feeds it.
+//! The reader of a log of any kind in pieces: cuts it into lines and hands out events. log_judge feeds it.
 
 ghost use Rattle.std.specs.Prelude.{◌≡◌, ◌<◌, ◌≤◌, ◌+◌, ◌++◌, ◌∷◌, [], ℕ, List, true, false, not, length, map, All, IsTrue, ◌≢◌, take, slice_index, IfOk, IfErr, OnOk, OnErr, IfSome, MatchOption, ◌↔◌, Option, Some, None, Ok, Err, option_to_list};
 ghost use Rattle.event_log.specs.Faults.{IsLogFault};

@@ -1,4 +1,5 @@
 pub mod ListTexts
+pub mod NameLists
 pub mod NameTexts
 pub mod ObjectTexts
 pub mod PlainWords

@@ -1,3 +1,4 @@
+pub mod ChoiceTexts
 pub mod Lists
 pub mod NextTexts
 pub mod Objects

@@ -1,8 +1,9 @@
-//! What is printed: verdicts, sessions, samples, faults, lists of charts and instances, and how a text is written to a sink.
+//! What is printed: verdicts, sessions, samples, faults, lists of charts, instances and choices, and how a text is written to a sink.
 //!
 //! `specs/` has each text in its bytes, plain and as JSON.
 #![tactic(auto)]
 
+mod choices;
 mod emitting;
 mod fault;
 mod lines;
@@ -11,6 +12,7 @@ mod next;
 mod sessions;
 mod texts;
 
+pub use choices::{choice_line, choices_end};
 pub use emitting::emit;
 pub use fault::{Fault, fault_text};
 pub use lists::{chart_list_text, instance_list_text};

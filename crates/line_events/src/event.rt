@@ -1,4 +1,4 @@
-//! An event with its line: event_log makes them, and trace_judge and chart_judge take them.
+//! An event with its line: event_log makes them, and trace_judge and log_judge take them.
 
 ghost use Rattle.std.specs.Prelude.{◌≡◌, IfOk};
 

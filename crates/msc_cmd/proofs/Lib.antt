@@ -1,3 +1,4 @@
+pub mod ChoiceReplies
 pub mod Listings
 pub mod LogOutcomes
 pub mod LogTaking

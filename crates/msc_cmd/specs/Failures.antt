@@ -6,7 +6,7 @@ use Rattle.msc_meaning.specs.Tables.{ChartEntry, Table, chart_at}
 use Rattle.judge_report.specs.declared.fault.Fault.TheVariants.{DocumentRead, LogRead}
 use Rattle.judge_report.specs.Texts.{fault_line}
 use Rattle.msc_requests.specs.declared.request.Request.{Request}
-use Rattle.msc_requests.specs.declared.request.Request.TheVariants.{Judge, Next, Sessions, Check, Print, Sample}
+use Rattle.msc_requests.specs.declared.request.Request.TheVariants.{Judge, Next, Sessions, Choices, Check, Print, Sample}
 use Rattle.msc_requests.specs.declared.request.Request.TheVariants as requests
 use Rattle.msc_cmd.specs.Documents.{IsDocument}
 use Rattle.msc_requests.specs.Requests.{request_of}
@@ -37,6 +37,7 @@ abbrev pub CannotServe : Request → Option Files → ℕ → ℕ → Bool → O
 CannotServe (Judge document chart log budget json form) files before now broken last text = CannotRead json files before now broken last document chart log text
 CannotServe (Next document chart log budget) files before now broken last text = CannotRead false files before now broken last document chart log text
 CannotServe (Sessions document chart log budget form) files before now broken last text = CannotRead false files before now broken last document chart log text
+CannotServe (Choices document chart) files before now broken last text = CannotOpen false before now broken last document text
 CannotServe (Check document json) files before now broken last text = CannotOpen json before now broken last document text
 CannotServe (requests.List document chart json) files before now broken last text = CannotOpen json before now broken last document text
 CannotServe (Print document) files before now broken last text = CannotOpen false before now broken last document text

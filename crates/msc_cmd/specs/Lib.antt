@@ -1,3 +1,4 @@
+pub mod ChoiceOutcomes
 pub mod DocumentTexts
 pub mod Documents
 pub mod Failures

@@ -29,12 +29,13 @@ use Rattle.judge_report.specs.Texts.{accepted_line, fault_line, verdict_line}
 use Rattle.msc_cmd.specs.declared.log_reading.Wanted.{Wanted}
 use Rattle.msc_cmd.specs.declared.log_reading.Wanted.TheVariants.{TheVerdict, NextLabels}
 use Rattle.msc_requests.specs.declared.request.Request.{Request}
-use Rattle.msc_requests.specs.declared.request.Request.TheVariants.{Judge, Next, Sessions, Check, Print, Sample}
+use Rattle.msc_requests.specs.declared.request.Request.TheVariants.{Judge, Next, Sessions, Choices, Check, Print, Sample}
 use Rattle.msc_requests.specs.declared.request.Request.TheVariants as requests
 use Rattle.msc_cmd.specs.DocumentTexts.{ReadsDocument, HasTextFault}
 use Rattle.msc_cmd.specs.Documents.{IsDocument, HasDocumentFault}
 use Rattle.msc_requests.specs.Requests.{request_of, IsNoRequest}
 use Rattle.msc_cmd.specs.Samples.{sample_log, sample_name, sample_text, yes_count}
+use Rattle.msc_cmd.specs.ChoiceOutcomes.{ListsChoices}
 use Rattle.msc_cmd.specs.SessionOutcomes.{SessionsAnswer}
 use Rattle.msc_cmd.specs.VerdictStatuses.{status_of}
 
@@ -103,6 +104,10 @@ abbrev pub ListAnswer : Bool → Option (List ℕ) → Table → ℕ → List �
 ListAnswer json None table = Says (chart_list json table)
 ListAnswer json (Some name) table = ChartOutcome json name table (λ chart. Says (instance_list json (listed_of table chart)))
 
+-- where the choices of the chart of a name are listed
+abbrev pub ChoicesAnswer : List ℕ → Table → ℕ → List ℕ → Type 0
+ChoicesAnswer name table = ChartOutcome false name table (λ chart. ListsChoices table name)
+
 -- what the entries of these names give
 abbrev pub FilesOutcome : Bool → Files → List ℕ → List ℕ → List ℕ → (Table → List ℕ → ℕ → List ℕ → Type 0) → ℕ → List ℕ → Type 0
 FilesOutcome json files document name log Answer = DocumentOutcome json files document (JudgeAnswer json files name log Answer)
@@ -130,6 +135,7 @@ abbrev pub RequestOutcome : Request → Files → ℕ → List ℕ → Type 0
 RequestOutcome (Judge document chart log budget json form) files = FilesOutcome json files document chart log (LogAnswer TheVerdict form budget json chart)
 RequestOutcome (Next document chart log budget) files = FilesOutcome false files document chart log (LogAnswer NextLabels Lines budget false chart)
 RequestOutcome (Sessions document chart log budget form) files = FilesOutcome false files document chart log (SessionsAnswer form budget chart)
+RequestOutcome (Choices document chart) files = DocumentOutcome false files document (ChoicesAnswer chart)
 RequestOutcome (Check document json) files = DocumentOutcome json files document (CheckAnswer json)
 RequestOutcome (requests.List document chart json) files = DocumentOutcome json files document (ListAnswer json chart)
 RequestOutcome (Print document) files = PrintOutcome files document

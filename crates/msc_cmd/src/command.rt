@@ -11,6 +11,7 @@ ghost use Rattle.msc_requests.specs.declared.request.Request.TheVariants.{Sample
 
 use crate::answer::{Reply, Style, judge_files, make_reply};
 use crate::checking::check_file;
+use crate::choices::choices_file;
 use crate::listing::list_file;
 use crate::log_reading::Wanted;
 use crate::printing::print_file;
@@ -70,6 +71,7 @@ fn serve<S: Shelf>(alloc: Global, request: &Request, shelf: &mut S) -> Result<Re
             budget,
             form,
         } => sessions_files(alloc, document, chart, log, *form, *budget, shelf),
+        Request::Choices { document, chart } => choices_file(alloc, document, chart, shelf),
         Request::Check { document, json } => check_file(alloc, document, *json, shelf),
         Request::List {
             document,
@@ -102,7 +104,7 @@ fn answer<S: Shelf>(alloc: Global, words: &Words, shelf: &mut S) -> Result<Reply
 ///
 /// | Status | Meaning |
 /// |---|---|
-/// | 0 | the log conforms, also that of a sample, and so does each of its sessions; what may come next in it is listed; the document is accepted, listed or printed |
+/// | 0 | the log conforms, also that of a sample, and so does each of its sessions; what may come next in it is listed; the document is accepted, listed or printed, or the choices of a chart are listed |
 /// | 1 | the log fails at an event, or a session does |
 /// | 2 | the words are no request |
 /// | 3 | the log stops early, or a session does, and none fails or is too large |

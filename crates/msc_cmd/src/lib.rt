@@ -5,6 +5,7 @@
 
 mod answer;
 mod checking;
+mod choices;
 mod command;
 mod document;
 mod document_text;

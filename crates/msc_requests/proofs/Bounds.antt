@@ -9,10 +9,10 @@ use Rattle.clap.specs.Words.{App, Kinds, Row, fault_of, first_of, matches_of}
 use Rattle.msc_base.specs.declared.limits.TheConstants.Limits.{BUDGET_MOST}
 use Rattle.event_log.specs.declared.event.LogForm.{LogForm}
 use Rattle.msc_requests.specs.declared.request.Request.{Request}
-use Rattle.msc_requests.specs.declared.request.Request.TheVariants.{Judge, Next, Sessions, Check, Print, Sample}
+use Rattle.msc_requests.specs.declared.request.Request.TheVariants.{Judge, Next, Sessions, Choices, Check, Print, Sample}
 use Rattle.msc_requests.specs.declared.request.Request.TheVariants as requests
 use Rattle.msc_requests.specs.declared.request.TheConstants.{MOST_SEED, MOST_TURNS, SESSION_BUDGET_MOST}
-use Rattle.msc_requests.specs.Requests.{IsBounded, ◌>>=◌, budget_from, check_app, check_from, check_in, command_request, check_request, form_of, is_between, is_number, is_true, judge_app, judge_request, list_app, list_from, list_in, list_request, next_app, next_from, next_in, next_request, number_in, print_app, print_from, print_in, print_request, request_by, request_from, request_in, request_of, sample_app, sample_from, sample_in, sample_request, seed_in, turns_in, unless_fault, session_budget_from, sessions_app, sessions_from, sessions_in, sessions_request}
+use Rattle.msc_requests.specs.Requests.{IsBounded, ◌>>=◌, budget_from, check_app, check_from, check_in, choices_app, choices_from, choices_in, choices_request, command_request, check_request, form_of, is_between, is_number, is_true, judge_app, judge_request, list_app, list_from, list_in, list_request, next_app, next_from, next_in, next_request, number_in, print_app, print_from, print_in, print_request, request_by, request_from, request_in, request_of, sample_app, sample_from, sample_in, sample_request, seed_in, turns_in, unless_fault, session_budget_from, sessions_app, sessions_from, sessions_in, sessions_request}
 
 -- each request that may be there is bounded
 abbrev AllHave : Option Request → Type 0
@@ -81,6 +81,11 @@ sessions_from_has (Some d) None l b k = none_has
 sessions_from_has (Some d) (Some c) None b k = none_has
 sessions_from_has (Some d) (Some c) (Some l) b k = sessions_has d c l (form_of (is_true k)) (session_budget_from b) (λ n e. session_budget_has b n e)
 
+choices_has : (d c : Option (List ℕ)) → AllHave (choices_from d c)
+choices_has None c = none_has
+choices_has (Some d) None = none_has
+choices_has (Some d) (Some c) = one_has (Choices d c) tt
+
 check_has : (d j : Option (List ℕ)) → AllHave (check_from d j)
 check_has None j = none_has
 check_has (Some d) j = one_has (Check d (is_true j)) tt
@@ -116,8 +121,10 @@ command_has command words =
     (if_has (bytes_eq command (codes "sample")) (sample_request words) _ (by_has sample_app sample_in words (λ rows. sampled_has (first_of (codes "turns") rows) (first_of (codes "seed") rows)))
     (if_has (bytes_eq command (codes "next")) (next_request words) _
     (by_has next_app next_in words (λ rows. next_from_has (first_of (codes "document") rows) (first_of (codes "chart") rows) (first_of (codes "log") rows) (first_of (codes "budget") rows)))
-    (if_has (bytes_eq command (codes "sessions")) (sessions_request words) None
-    (by_has sessions_app sessions_in words (λ rows. sessions_from_has (first_of (codes "document") rows) (first_of (codes "chart") rows) (first_of (codes "log") rows) (first_of (codes "budget") rows) (first_of (codes "log-json") rows))) none_has))))))
+    (if_has (bytes_eq command (codes "sessions")) (sessions_request words) _
+    (by_has sessions_app sessions_in words (λ rows. sessions_from_has (first_of (codes "document") rows) (first_of (codes "chart") rows) (first_of (codes "log") rows) (first_of (codes "budget") rows) (first_of (codes "log-json") rows)))
+    (if_has (bytes_eq command (codes "choices")) (choices_request words) None
+    (by_has choices_app choices_in words (λ rows. choices_has (first_of (codes "document") rows) (first_of (codes "chart") rows))) none_has)))))))
 
 pub is_bounded : (words : List (List ℕ)) (request : Request) → request_of words ≡ Some request → IsBounded request
 is_bounded [] request e = none_has request e

@@ -3,7 +3,7 @@ use Rattle.std.proofs.Common.{◌≡◌, refl, codes, true, false, [], ◌∷◌
 use Rattle.std.specs.Str.{is_utf8}
 use Rattle.clap.proofs.OnLiterals.{clap_on_literals}
 use Rattle.event_log.specs.declared.event.LogForm.TheVariants.{Lines, Json}
-use Rattle.msc_requests.specs.declared.request.Request.TheVariants.{Judge, Next, Sessions, Check, List, Print, Sample}
+use Rattle.msc_requests.specs.declared.request.Request.TheVariants.{Judge, Next, Sessions, Choices, Check, List, Print, Sample}
 use Rattle.msc_requests.specs.Requests.{request_of}
 
 -- three words
@@ -368,3 +368,27 @@ sessions_no_budget = refl
 no_sessions_json : request_of (codes "sessions" ∷ codes "d" ∷ codes "A" ∷ codes "l" ∷ codes "--json" ∷ []) ≡ None
 unfolding clap_on_literals is_utf8
 no_sessions_json = refl
+
+-- ---- choices
+
+choices_plain : request_of (codes "choices" ∷ codes "d" ∷ codes "A" ∷ []) ≡ Some (Choices (codes "d") (codes "A"))
+unfolding clap_on_literals is_utf8
+choices_plain = refl
+
+choices_behind_dashes : request_of (codes "choices" ∷ codes "--" ∷ codes "d" ∷ codes "--json" ∷ []) ≡ Some (Choices (codes "d") (codes "--json"))
+unfolding clap_on_literals is_utf8
+choices_behind_dashes = refl
+
+-- the chart is named
+choices_one : request_of (codes "choices" ∷ codes "d" ∷ []) ≡ None
+unfolding clap_on_literals is_utf8
+choices_one = refl
+
+choices_three : request_of (codes "choices" ∷ codes "d" ∷ codes "A" ∷ codes "l" ∷ []) ≡ None
+unfolding clap_on_literals is_utf8
+choices_three = refl
+
+-- it has no options
+no_choices_json : request_of (codes "choices" ∷ codes "d" ∷ codes "A" ∷ codes "--json" ∷ []) ≡ None
+unfolding clap_on_literals is_utf8
+no_choices_json = refl

@@ -16,7 +16,7 @@ use Rattle.clap.proofs.WalkLemmas.{first_value-rows}
 use Rattle.msc_requests.specs.declared.request.Request.{Request}
 use Rattle.msc_requests.specs.declared.request.WordFault.{WordFault}
 use Rattle.msc_requests.specs.declared.request.WordFault.TheVariants.{NoRequest, NoMemory}
-use Rattle.msc_requests.specs.Requests.{Answers, HasNoRequest, IsFound, check_app, check_from, check_in, check_request, command_request, judge_app, judge_request, list_app, list_from, list_in, list_request, next_app, next_from, next_in, next_request, print_app, print_from, print_in, print_request, request_by, request_from, request_in, request_of, sample_app, sample_from, sample_in, sample_request, unless_fault, sessions_app, sessions_from, sessions_in, sessions_request}
+use Rattle.msc_requests.specs.Requests.{Answers, HasNoRequest, IsFound, check_app, check_from, check_in, check_request, choices_app, choices_from, choices_in, choices_request, command_request, judge_app, judge_request, list_app, list_from, list_in, list_request, next_app, next_from, next_in, next_request, print_app, print_from, print_in, print_request, request_by, request_from, request_in, request_of, sample_app, sample_from, sample_in, sample_request, unless_fault, sessions_app, sessions_from, sessions_in, sessions_request}
 
 pub judge_simple : is_simple judge_app ≡ true
 unfolding clap_on_literals
@@ -41,6 +41,14 @@ sessions_simple = refl
 pub sessions_free : is_simple_and_free sessions_app ≡ true
 unfolding clap_on_literals
 sessions_free = refl
+
+pub choices_simple : is_simple choices_app ≡ true
+unfolding clap_on_literals
+choices_simple = refl
+
+pub choices_free : is_simple_and_free choices_app ≡ true
+unfolding clap_on_literals
+choices_free = refl
 
 pub check_simple : is_simple check_app ≡ true
 unfolding clap_on_literals
@@ -122,6 +130,9 @@ pub sessions_firsts : (f : Found) (d c l b k : Option (List ℕ)) → d ≡ firs
 sessions_firsts f d c l b k hd hc hl hb hk =
     rw (hd, hc, hl, hb, hk, first_value-rows f (codes "document"), first_value-rows f (codes "chart"), first_value-rows f (codes "log"), first_value-rows f (codes "budget"), first_value-rows f (codes "log-json")) refl
 
+pub choices_firsts : (f : Found) (d c : Option (List ℕ)) → d ≡ first_value f (codes "document") → c ≡ first_value f (codes "chart") → choices_from d c ≡ choices_in (rows_of f)
+choices_firsts f d c hd hc = rw (hd, hc, first_value-rows f (codes "document"), first_value-rows f (codes "chart")) refl
+
 pub checked_firsts : (f : Found) (d j : Option (List ℕ)) → d ≡ first_value f (codes "document") → j ≡ first_value f (codes "json") → check_from d j ≡ check_in (rows_of f)
 checked_firsts f d j hd hj = rw (hd, hj, first_value-rows f (codes "document"), first_value-rows f (codes "json")) refl
 
@@ -187,13 +198,16 @@ next_command command words e = rw e refl
 pub sessions_command : (command : List ℕ) (words : List (List ℕ)) → command ≡ codes "sessions" → command_request command words ≡ sessions_request words
 sessions_command command words e = rw e refl
 
+pub choices_command : (command : List ℕ) (words : List (List ℕ)) → command ≡ codes "choices" → command_request command words ≡ choices_request words
+choices_command command words e = rw e refl
+
 differs : (a b : List ℕ) → (a ≡ b → ⊥) → bytes_eq a b ≡ false
 differs a b other = false_from_ne_true (bytes_eq a b) (λ e. other ((bytes_eq-Decides a b).0 e))
 
 pub no_command : (command : List ℕ) (words : List (List ℕ)) → (command ≡ codes "judge" → ⊥) → (command ≡ codes "check" → ⊥) → (command ≡ codes "list" → ⊥) → (command ≡ codes "print" → ⊥) → (command ≡ codes "sample" → ⊥)
-    → (command ≡ codes "next" → ⊥) → (command ≡ codes "sessions" → ⊥) → command_request command words ≡ None
-no_command command words j c l p s n m =
-    rw (differs command (codes "judge") j, differs command (codes "check") c, differs command (codes "list") l, differs command (codes "print") p, differs command (codes "sample") s, differs command (codes "next") n, differs command (codes "sessions") m) refl
+    → (command ≡ codes "next" → ⊥) → (command ≡ codes "sessions" → ⊥) → (command ≡ codes "choices" → ⊥) → command_request command words ≡ None
+no_command command words j c l p s n m h =
+    rw (differs command (codes "judge") j, differs command (codes "check") c, differs command (codes "list") l, differs command (codes "print") p, differs command (codes "sample") s, differs command (codes "next") n, differs command (codes "sessions") m, differs command (codes "choices") h) refl
 
 -- what is answered of the words behind a command is answered of all
 pub commanded : (command : List ℕ) (rest texts words : List (List ℕ)) (answer : Result Request WordFault) → words ≡ command ∷ rest → list_all is_utf8 rest ≡ true → texts ≡ rest

@@ -10,7 +10,7 @@ use Rattle.msc_base.specs.declared.limits.TheConstants.Limits.{BUDGET_DEFAULT, B
 use Rattle.event_log.specs.declared.event.LogForm.{LogForm}
 use Rattle.event_log.specs.declared.event.LogForm.TheVariants.{Lines, Json}
 use Rattle.msc_requests.specs.declared.request.Request.{Request}
-use Rattle.msc_requests.specs.declared.request.Request.TheVariants.{Judge, Next, Sessions, Check, Print, Sample}
+use Rattle.msc_requests.specs.declared.request.Request.TheVariants.{Judge, Next, Sessions, Choices, Check, Print, Sample}
 use Rattle.msc_requests.specs.declared.request.Request.TheVariants as requests
 use Rattle.msc_requests.specs.declared.request.WordFault.{WordFault}
 use Rattle.msc_requests.specs.declared.request.WordFault.TheVariants.{NoRequest, NoMemory}
@@ -49,6 +49,10 @@ next_app = with_rule (with_rule (with_rule (with_rule (bare (codes "next")) (wan
 -- sessions DOC CHART LOG [--budget N] [--log-json]
 abbrev pub sessions_app : App
 sessions_app = with_rule (with_rule (with_rule (with_rule (with_rule (bare (codes "sessions")) (wanted (codes "document"))) (wanted (codes "chart"))) (wanted (codes "log"))) (valued (codes "budget"))) (flag (codes "log-json"))
+
+-- choices DOC CHART
+abbrev pub choices_app : App
+choices_app = with_rule (with_rule (bare (codes "choices")) (wanted (codes "document"))) (wanted (codes "chart"))
 
 -- check DOC [--json]
 abbrev pub check_app : App
@@ -153,6 +157,16 @@ sessions_from document chart log budget log_json = do
 abbrev pub sessions_in : List Row → Option Request
 sessions_in rows = sessions_from (first_of (codes "document") rows) (first_of (codes "chart") rows) (first_of (codes "log") rows) (first_of (codes "budget") rows) (first_of (codes "log-json") rows)
 
+-- of the request to list choices
+abbrev pub choices_from : Option (List ℕ) → Option (List ℕ) → Option Request
+choices_from document chart = do
+  d ← document
+  c ← chart
+  Some (Choices d c)
+
+abbrev pub choices_in : List Row → Option Request
+choices_in rows = choices_from (first_of (codes "document") rows) (first_of (codes "chart") rows)
+
 -- of the request to check
 abbrev pub check_from : Option (List ℕ) → Option (List ℕ) → Option Request
 check_from document json = document >>= λ d. Some (Check d (is_true json))
@@ -212,6 +226,9 @@ next_request words = request_by next_app next_in words
 abbrev pub sessions_request : List (List ℕ) → Option Request
 sessions_request words = request_by sessions_app sessions_in words
 
+abbrev pub choices_request : List (List ℕ) → Option Request
+choices_request words = request_by choices_app choices_in words
+
 abbrev pub check_request : List (List ℕ) → Option Request
 check_request words = request_by check_app check_in words
 
@@ -234,6 +251,7 @@ command_request command words =
     else if bytes_eq command (codes "sample") then sample_request words
     else if bytes_eq command (codes "next") then next_request words
     else if bytes_eq command (codes "sessions") then sessions_request words
+    else if bytes_eq command (codes "choices") then choices_request words
     else None
 
 -- the request that the words make, or none
@@ -255,6 +273,7 @@ abbrev pub IsBounded : Request → Type 0
 IsBounded (Judge document chart log budget json form) = (1 ≤ budget) × (budget ≤ BUDGET_MOST)
 IsBounded (Next document chart log budget) = (1 ≤ budget) × (budget ≤ BUDGET_MOST)
 IsBounded (Sessions document chart log budget form) = (1 ≤ budget) × (budget ≤ SESSION_BUDGET_MOST)
+IsBounded (Choices document chart) = Unit {0}
 IsBounded (Check document json) = Unit {0}
 IsBounded (requests.List document chart json) = Unit {0}
 IsBounded (Print document) = Unit {0}

@@ -2,7 +2,7 @@
 
 ghost use Rattle.std.specs.Prelude.{◌≡◌, IfOk};
 ghost use Rattle.clap.specs.Words.{app_of, with_rule};
-ghost use Rattle.msc_requests.specs.Requests.{bare, check_app, flag, judge_app, list_app, next_app, optional, print_app, sample_app, sessions_app, valued, wanted};
+ghost use Rattle.msc_requests.specs.Requests.{bare, check_app, choices_app, flag, judge_app, list_app, next_app, optional, print_app, sample_app, sessions_app, valued, wanted};
 
 use clap::{Arg, ArgAction, Command};
 use std::alloc::{AllocError, Global};
@@ -98,6 +98,15 @@ pub fn sessions_command<'a>(alloc: Global) -> Result<Command<'a>, AllocError>
     let command = with_wanted(alloc, command, "log")?;
     let command = with_valued(alloc, command, "budget")?;
     with_flag(alloc, command, "log-json")
+}
+
+/// What may stand behind `choices`.
+pub fn choices_command<'a>(alloc: Global) -> Result<Command<'a>, AllocError>
+    ensures { IfOk result (λ c. app_of c ≡ choices_app) }
+{
+    let command = bare_command(alloc, "choices");
+    let command = with_wanted(alloc, command, "document")?;
+    with_wanted(alloc, command, "chart")
 }
 
 /// What may stand behind `check`.

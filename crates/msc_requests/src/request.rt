@@ -43,6 +43,11 @@ pub enum Request {
         budget: u64,
         form: LogForm,
     },
+    /// List the choices of this chart of this document that several instances make.
+    Choices {
+        document: Text,
+        chart: Text,
+    },
     /// Say whether this document is accepted.
     Check {
         document: Text,

@@ -4,13 +4,13 @@ ghost use Rattle.std.specs.Prelude.{◌≡◌, IfOk, IfNone, IfSome, IsErrOf, ma
 ghost use Rattle.std.specs.List.{list_all};
 ghost use Rattle.std.specs.Str.{is_utf8};
 ghost use Rattle.clap.specs.Words.{app_of, found_of, is_simple, is_simple_and_free, rows_of};
-ghost use Rattle.msc_requests.specs.Requests.{Answers, HasNoRequest, IsFound, budget_from, check_from, check_in, check_request, command_request, form_of, is_true, judge_request, list_from, list_in, list_request, next_from, next_in, next_request, print_from, print_in, print_request, request_from, request_in, request_of as request_in_words, sample_from, sample_in, sample_request, seed_in, session_budget_from, sessions_from, sessions_in, sessions_request, turns_in};
-ghost use Rattle.msc_requests.specs.declared.request.Request.TheVariants.{Judge, List, Next, Sessions};
+ghost use Rattle.msc_requests.specs.Requests.{Answers, HasNoRequest, IsFound, budget_from, check_from, check_in, check_request, choices_from, choices_in, choices_request, command_request, form_of, is_true, judge_request, list_from, list_in, list_request, next_from, next_in, next_request, print_from, print_in, print_request, request_from, request_in, request_of as request_in_words, sample_from, sample_in, sample_request, seed_in, session_budget_from, sessions_from, sessions_in, sessions_request, turns_in};
+ghost use Rattle.msc_requests.specs.declared.request.Request.TheVariants.{Choices, Judge, List, Next, Sessions};
 ghost use Rattle.msc_requests.specs.declared.request.WordFault.TheVariants.{NoRequest};
 
 use crate::commands::{
-    check_command, judge_command, list_command, next_command, print_command, sample_command,
-    sessions_command,
+    check_command, choices_command, judge_command, list_command, next_command, print_command,
+    sample_command, sessions_command,
 };
 use crate::numbers::number_in;
 use crate::request::{
@@ -231,6 +231,35 @@ fn sessions_of_texts(
     }
 }
 
+/// The request to list choices, with texts of its own.
+fn choices_of(alloc: Global, document: &str, chart: &str) -> Result<Request, NoMemory>
+    ensures { IfOk result (λ r. r ≡ Choices document.now chart.now) }
+{
+    let document = Text::from_bytes(alloc, document.as_bytes())?;
+    let chart = Text::from_bytes(alloc, chart.as_bytes())?;
+    Ok(Request::Choices { document, chart })
+}
+
+/// The request to list choices, from what each argument was given.
+fn choices_of_texts(
+    alloc: Global,
+    document: Option<&str>,
+    chart: Option<&str>,
+) -> Result<Request, WordFault>
+    ensures { Answers (choices_from (option_map (λ s. s.now) document.entry) (option_map (λ s. s.now) chart.entry)) result }
+{
+    let Some(document) = document else {
+        return Err(WordFault::NoRequest);
+    };
+    let Some(chart) = chart else {
+        return Err(WordFault::NoRequest);
+    };
+    match choices_of(alloc, document, chart) {
+        Ok(request) => Ok(request),
+        Err(_) => Err(WordFault::NoMemory),
+    }
+}
+
 /// The request to check, from what each argument was given.
 fn check_of_texts(
     alloc: Global,
@@ -371,6 +400,13 @@ fn sessions_of_matches(alloc: Global, matches: &ArgMatches) -> Result<Request, W
     )
 }
 
+/// The request to list choices in what `clap` found.
+fn choices_of_matches(alloc: Global, matches: &ArgMatches) -> Result<Request, WordFault>
+    ensures { Answers (choices_in (rows_of (found_of matches.now))) result }
+{
+    choices_of_texts(alloc, matches.get_str("document"), matches.get_str("chart"))
+}
+
 /// The request to check in what `clap` found.
 fn check_of_matches(alloc: Global, matches: &ArgMatches) -> Result<Request, WordFault>
     ensures { Answers (check_in (rows_of (found_of matches.now))) result }
@@ -453,6 +489,17 @@ fn sessions_words(alloc: Global, words: &[&str]) -> Result<Request, WordFault>
     sessions_of_matches(alloc, &matches)
 }
 
+/// The request that the words behind `choices` make.
+fn choices_words(alloc: Global, words: &[&str]) -> Result<Request, WordFault>
+    ensures { Answers (choices_request (map (λ w. w.now) words.entry.now)) result }
+{
+    let Ok(command) = choices_command(alloc) else {
+        return Err(WordFault::NoMemory);
+    };
+    let matches = matches_in(command, words)?;
+    choices_of_matches(alloc, &matches)
+}
+
 /// The request that the words behind `check` make.
 fn check_words(alloc: Global, words: &[&str]) -> Result<Request, WordFault>
     ensures { Answers (check_request (map (λ w. w.now) words.entry.now)) result }
@@ -521,6 +568,9 @@ fn command_words(alloc: Global, command: &Text, words: &[&str]) -> Result<Reques
     }
     if is_text(command.bytes(), "sessions") {
         return sessions_words(alloc, words);
+    }
+    if is_text(command.bytes(), "choices") {
+        return choices_words(alloc, words);
     }
     Err(WordFault::NoRequest)
 }

@@ -9,6 +9,11 @@ returns-in-Check-clause-outcome g c =
     let is : c.args.request.now ≡ requests.Check c.in-Check.document c.in-Check.json = search rules in
     served (g.S.Shelf.files c.args.shelf.now) c.args.request.now (requests.Check c.in-Check.document c.in-Check.json) c.check_file.result is c.check_file.ensures.outcome
 
+pub returns-in-Choices-clause-outcome : goal.returns-in-Choices-clause-outcome
+returns-in-Choices-clause-outcome g c =
+    let is : c.args.request.now ≡ requests.Choices c.in-Choices.document c.in-Choices.chart = search rules in
+    served (g.S.Shelf.files c.args.shelf.now) c.args.request.now (requests.Choices c.in-Choices.document c.in-Choices.chart) c.choices_file.result is c.choices_file.ensures.outcome
+
 pub returns-in-List-clause-outcome : goal.returns-in-List-clause-outcome
 returns-in-List-clause-outcome g c =
     let is : c.args.request.now ≡ requests.List c.in-List.document c.in-List.chart c.in-List.json = search rules in

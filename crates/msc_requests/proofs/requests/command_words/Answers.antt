@@ -1,7 +1,7 @@
 use Rattle.std.proofs.Common.{◌≡◌, codes, rules, subst, sym, Option, map}
 use Rattle.msc_requests.specs.declared.request.Request.{Request}
 use Rattle.msc_requests.specs.Requests.{Answers}
-use Rattle.msc_requests.proofs.WordLaws.{judge_command, check_command, list_command, print_command, sample_command, next_command, sessions_command, no_command}
+use Rattle.msc_requests.proofs.WordLaws.{judge_command, check_command, list_command, print_command, sample_command, next_command, sessions_command, choices_command, no_command}
 use Rattle.msc_requests.proofs.requests.command_words.Goals as goal
 
 pub returns-then-is_text : goal.returns-then-is_text
@@ -39,6 +39,11 @@ returns-then-is_text-7 c =
     let is : c.args.command.now ≡ codes "sessions" = search rules in
     subst (λ (o : Option Request). Answers o c.sessions_words.result) (sym (sessions_command c.args.command.now (map (λ w. w.now) c.args.words.now) is)) c.sessions_words.ensures
 
+pub returns-then-is_text-8 : goal.returns-then-is_text-8
+returns-then-is_text-8 c =
+    let is : c.args.command.now ≡ codes "choices" = search rules in
+    subst (λ (o : Option Request). Answers o c.choices_words.result) (sym (choices_command c.args.command.now (map (λ w. w.now) c.args.words.now) is)) c.choices_words.ensures
+
 pub returns : goal.returns
 returns c =
     let judge : c.args.command.now ≡ codes "judge" → ⊥ = search rules in
@@ -48,4 +53,5 @@ returns c =
     let sample : c.args.command.now ≡ codes "sample" → ⊥ = search rules in
     let next : c.args.command.now ≡ codes "next" → ⊥ = search rules in
     let sessions : c.args.command.now ≡ codes "sessions" → ⊥ = search rules in
-    no_command c.args.command.now (map (λ w. w.now) c.args.words.now) judge check list print sample next sessions
+    let choices : c.args.command.now ≡ codes "choices" → ⊥ = search rules in
+    no_command c.args.command.now (map (λ w. w.now) c.args.words.now) judge check list print sample next sessions choices
