@@ -1,0 +1,10 @@
+pub mod Accounts
+pub mod JoinsBack
+pub mod RowsBack
+pub mod PermitsBack
+pub mod StepsBack
+pub mod Ways
+pub mod Paths
+pub mod AccountLaws
+pub mod EmptyWays
+pub mod Examples

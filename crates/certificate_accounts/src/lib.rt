@@ -1,0 +1,4 @@
+//! Accounts of the terms that a log leaves on its way: definitions, and laws about them.
+#![tactic(auto)]
+
+pub mod laws;

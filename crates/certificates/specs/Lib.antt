@@ -1,0 +1,6 @@
+pub mod Certificates
+pub mod CertificateLaws
+pub mod Floors
+pub mod CheckLaws
+pub mod Lines
+pub mod Examples
