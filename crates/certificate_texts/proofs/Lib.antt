@@ -1,0 +1,13 @@
+pub mod Digits
+pub mod LineForms
+pub mod Cutting
+pub mod Following
+pub mod Standing
+pub mod Exactness
+pub mod ReadingBack
+pub mod Parsing
+pub mod Writing
+pub mod Stacks
+pub mod LineReading
+pub mod Loops
+pub mod Deciding

@@ -1,0 +1,4 @@
+pub mod ChartTerms
+pub mod Passing
+pub mod Outlines
+pub mod Answers
