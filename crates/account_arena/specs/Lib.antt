@@ -1,0 +1,3 @@
+pub mod AccountCodes
+pub mod Arenas
+pub mod ClosedParts
