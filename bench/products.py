@@ -14,7 +14,7 @@ PROGRAM is the built program. Each work is run three times, and the least time c
     turns       1,900 turns of a loop under way, each an action that 500 other instances follow
     sessions    1,000 sessions of a loop of one message in 1,000,000 mixed lines, a turn at a time and an event at a time, and the same lines as one
                 log; 1,000 sessions in 1,000,000 lines, no two of which are equal
-    choices     400 choices between operands of 25 events; 2,000 and 4,000 exceptions with an event before the next; alternatives within each other
+    choices     400 choices between operands of 25 events; 100, 200 and 400 exceptions with an event before the next; alternatives within each other
     ring, mesh  a ring of 4,000 nodes over 1,000 instances, so that 1,000 of the nodes may come next; 2,000 nodes that lead to 90 each
 """
 import sys
@@ -141,7 +141,7 @@ WORKS = {
                  ("1,000 sessions, an event at a time", lambda: (LOOP, SESSIONS, mixed(1_000, 500, False))),
                  ("1,000 sessions of lines that differ", lambda: unequal(1_000, 1_000))],
     "choices": [("400 choices of 20,000 events", lambda: (finite.large_chart()[0], ["choices", "d", "L"], "")),
-                *((f"{count:,} exceptions", lambda count=count: (finite.with_exceptions(count), ["choices", "d", "E"], "")) for count in (2_000, 4_000)),
+                *((f"{count:,} exceptions", lambda count=count: (finite.with_exceptions(count), ["choices", "d", "E"], "")) for count in (100, 200, 400)),
                 ("expressions within each other", lambda: (finite.small("A"), ["choices", "d", "A"], ""))],
     "ring": [("a ring of 4,000 nodes", lambda: (graph(4000, lambda number: [number + 1]), NEXT, ""))],
     "mesh": [("2,000 nodes that lead to 90 each", lambda: (graph(2000, lambda number: range(31 * number, 31 * number + 90)), NEXT, ""))],
