@@ -158,8 +158,8 @@ impl Net {
         self.ends[node as usize]
     }
 
-    /// The nodes that come next behind the spot.
-    pub(crate) fn behind(&self, from: Spot) -> &[u32]
+    /// The nodes that come next behind the spot. It takes no memory.
+    pub fn behind(&self, from: Spot) -> &[u32]
         requires { IsSpotBelow (size_of self.now) from }
         ensures nodes { result.now ≡ behind self.now (spot_of from) }
         ensures net { IsNet self.now }

@@ -74,6 +74,14 @@ next_asked v terms numbers most number old mid new is f g = then_marked v terms 
       | inr e ↦ inr (same_Some n number (sym b.there ∙ ap (slice_get numbers) e ∙ is))
     ]
 
+-- those that were asked, and one more
+pub asked_more : (numbers : List ℕ) (most number : ℕ) (old new : NodeSetValue) → slice_get numbers most ≡ Some number → ((n : ℕ) → IsIn n old.nodes → IsBefore numbers most n) → ((n : ℕ) → IsIn n new.nodes ↔ (IsIn n old.nodes ⊎ (n ≡ number)))
+    → (n : ℕ) → IsIn n new.nodes → IsBefore numbers (most + 1) n
+asked_more numbers most number old new is before adds n i = elim ((adds n).0 i) [
+  | inl j ↦ let b = before n j in let l = b.before in record { index = b.index; before = omega (arith, l); there = b.there }
+  | inr e ↦ record { index = most; before = omega arith; there = is ∙ ap Some (sym e) }
+]
+
 among_index : (numbers : List ℕ) (n : ℕ) → IsAmong numbers n → (i : ℕ) × (slice_get numbers i ≡ Some n)
 among_index [] n i = absurd i
 among_index (m ∷ numbers) n (inl e) = (0, ap Some (sym e))

@@ -69,7 +69,7 @@ fn number_at(numbers: &Vec<u32>, index: usize) -> u32
     numbers[index]
 }
 
-/// Marks the labels with which the term goes on: it is asked for those of its events that may come first.
+/// Marks the labels with which the term goes on: it is asked for those of its events that may come first, for each once.
 #[tactic(auto, using(crate::proofs::Marked::marking))]
 fn mark_term(alloc: Global, nets: &Nets, term: &Term, marks: &mut NodeSet) -> Result<(), NoMemory>
     requires sound { IsSoundFor nets.now term.now }
@@ -78,8 +78,14 @@ fn mark_term(alloc: Global, nets: &Nets, term: &Term, marks: &mut NodeSet) -> Re
 {
     let set = set_of(alloc, term)?;
     let labels = first_labels(alloc, nets, term)?;
+    let mut asked = NodeSet::empty(alloc, nets.labels())?;
     for index in 0..labels.len() {
-        mark_label(alloc, nets, &set, number_at(&labels, index), marks)?;
+        let number = number_at(&labels, index);
+        if is_told(nets, number, &asked) {
+            continue;
+        }
+        asked.add(number);
+        mark_label(alloc, nets, &set, number, marks)?;
     }
     Ok(())
 }

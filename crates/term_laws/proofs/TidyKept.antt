@@ -34,7 +34,7 @@ NoNumber j (one e) = e.number ≢ j
 NoNumber j (join m x y) = NoNumber j x × NoNumber j y
 NoNumber j (bind x q) = NoNumber j x
 
-earlier_pairs : (q : List (ℕ × ℕ)) (n j : ℕ) → has (before_in q n) j ≡ true → InPairs j q
+pub earlier_pairs : (q : List (ℕ × ℕ)) (n j : ℕ) → has (before_in q n) j ≡ true → InPairs j q
 earlier_pairs [] n j h = cc
 earlier_pairs (p ∷ q) n j h = go (n == p.1) h (earlier_pairs q n j)
   where

@@ -30,22 +30,26 @@ use term_tables::Nets;
 
 /// A term, and the index in it from which an event is taken.
 #[derive(Drop)]
-pub(crate) struct Frame {
-    pub(crate) parent: Term,
-    pub(crate) index: usize,
+pub struct Frame {
+    /// The term.
+    pub parent: Term,
+    /// The index of its child: of a part, of a part of its row, of a node; 0 below a tie.
+    pub index: usize,
 }
 
 /// An event that is taken, and a block of its instances.
 #[derive(Drop)]
-pub(crate) struct Taken {
-    pub(crate) event: Event,
-    pub(crate) at: Block,
+pub struct Taken {
+    /// The event.
+    pub event: Event,
+    /// Its instances.
+    pub at: Block,
 }
 
 /// What is left of the whole term from which the event at the end of the path is taken, or None where a part before it doesn't
 /// let it pass.
 #[tactic(auto, using(crate::proofs::Ascending::ascending))]
-pub(crate) fn rebuilt(
+pub fn rebuilt(
     alloc: Global,
     nets: &Nets,
     taken: &Taken,
@@ -84,7 +88,7 @@ pub(crate) fn rebuilt(
 ///
 /// Numbers of the child that `gone` hasn't are numbers of what it leaves; so it is with the whole then.
 #[tactic(auto, using(crate::proofs::Ascending::ascending))]
-fn put(
+pub fn put(
     alloc: Global,
     nets: &Nets,
     taken: &Taken,

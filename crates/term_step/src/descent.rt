@@ -28,9 +28,11 @@ use term_tables::Nets;
 
 /// A child of a term, and its index.
 #[derive(Drop)]
-pub(crate) struct Step {
-    pub(crate) index: usize,
-    pub(crate) inner: Term,
+pub struct Step {
+    /// The index.
+    pub index: usize,
+    /// The child.
+    pub inner: Term,
 }
 
 /// The next child from the index on from which an event with the label may be taken, if there is one.
@@ -39,7 +41,7 @@ pub(crate) struct Step {
 /// instances, parts behind that have no other instance are passed over; and all parts behind, where `one_place` says that events of
 /// one label have the same instances.
 #[tactic(auto, using(crate::proofs::Passes::passes, crate::proofs::Descending::descending))]
-pub(crate) fn next_child(
+pub fn next_child(
     alloc: Global,
     nets: &Nets,
     label: u32,
@@ -383,7 +385,7 @@ fn child_count(nets: &Nets, term: &Term) -> usize
 }
 
 /// The index behind that of a child.
-pub(crate) fn behind(nets: &Nets, term: &Term, index: usize) -> usize
+pub fn behind(nets: &Nets, term: &Term, index: usize) -> usize
     requires tables { AreReadyTables nets.now.tables }
     requires term { IsReady nets.now.tables term.now }
     requires index { index < child_count nets.now.tables term.now }

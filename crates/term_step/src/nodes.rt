@@ -119,7 +119,7 @@ fn node_of(
 }
 
 /// The number of the net's node of that index.
-pub(crate) fn node_at(nets: &Nets, net: u32, index: usize) -> u32
+pub fn node_at(nets: &Nets, net: u32, index: usize) -> u32
     requires net { net < net_count nets.now.tables }
     requires index { index < size_of (net_of nets.now.tables net) }
     ensures { result ≡ index }

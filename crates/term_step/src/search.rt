@@ -109,7 +109,7 @@ fn add_event(
 
 /// The event that the term is, if it is one with the label.
 #[tactic(auto, using(crate::proofs::Searching::searching))]
-fn taken_of(alloc: Global, term: &Term, wanted: u32) -> Result<Option<Taken>, NoMemory>
+pub fn taken_of(alloc: Global, term: &Term, wanted: u32) -> Result<Option<Taken>, NoMemory>
     ensures event { IfOk result (λ found. IfSome found (λ taken. (term.now ≡ EventTree (event_of taken.event)) × IsTaken taken × (taken.event.label ≡ wanted))) }
     ensures none { IfOk result (λ found. IfNone found (IsOther wanted term.now)) }
 {

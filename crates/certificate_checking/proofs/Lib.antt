@@ -1,0 +1,10 @@
+pub mod Opening
+pub mod Stepping
+pub mod EachLine
+pub mod QuietSteps
+pub mod Going
+pub mod Testing
+pub mod Ending
+pub mod FormFacts
+pub mod EachStep
+pub mod Stops

@@ -1,0 +1,6 @@
+mod Growing
+mod Spelling
+mod Trailing
+mod Conforming
+mod Stepped
+mod Returning

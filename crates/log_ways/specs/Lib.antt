@@ -1,0 +1,3 @@
+pub mod LogWays
+pub mod Stepping
+pub mod Trails

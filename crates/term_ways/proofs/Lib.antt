@@ -1,0 +1,2 @@
+mod Derived
+mod Searched
