@@ -4,9 +4,12 @@ use Rattle.std.proofs.Common.{ap, ap₂, sym, ◌∙◌, arith, append_assoc, ap
 use Rattle.std.proofs.lemmas.List.{length_push}
 use Rattle.std.proofs.lemmas.Option.{slice_get_read}
 use Rattle.account_arena.specs.declared.arena.Node.{Node}
-use Rattle.account_arena.specs.Arenas.{AreOlder, AreThere, IsOlder, account_at, account_in, accounts_at, accounts_behind, accounts_of}
+use Rattle.account_arena.specs.Arenas.{AreOlder, AreSmaller, AreSmallerVisits, AreThere, Grows, IsOlder, IsRowThere, IsSmallerItem, IsSmallerRow, account_at, account_in, accounts_at, accounts_behind, accounts_of, is_nothing, row_at, visits_at}
 use Rattle.account_arena.specs.declared.arena.Node.TheVariants as node
-use Rattle.certificate_accounts.specs.Accounts.{Account, account_and, of_branch, of_parts}
+use Rattle.account_arena.specs.declared.numbers.RowItem.{RowItem}
+use Rattle.account_arena.specs.declared.numbers.RowItem.TheVariants as item
+use Rattle.account_arena.specs.declared.numbers.Visit.{Visit}
+use Rattle.certificate_accounts.specs.Accounts.{Account, account_and, begun_turn, of_branch, of_parts, of_row, of_walk, turns_in_gap, visit}
 
 behind_pushed : (us : List Account) (ns : List Node) (n : Node) → accounts_behind us (ns ++ n ∷ []) ≡ accounts_behind us ns ++ account_in (accounts_behind us ns) n ∷ []
 behind_pushed us [] n = refl
@@ -43,11 +46,22 @@ pub accounts_keep : (us vs : List Account) (is : List ℕ) → AreThere us is �
 accounts_keep us vs [] h = refl
 accounts_keep us vs (i ∷ is) h = ap₂ (λ a c. account_and a c) (stays_at us vs i h.0) (accounts_keep us vs is h.1)
 
+pub row_keeps : (us vs : List Account) (rs : List RowItem) → IsRowThere us rs → row_at (us ++ vs) rs ≡ row_at us rs
+row_keeps us vs [] h = refl
+row_keeps us vs (item.Gap is ∷ rs) h = ap₂ (λ a b. turns_in_gap a b) (accounts_keep us vs is h.0) (row_keeps us vs rs h.1)
+row_keeps us vs (item.Turn i ∷ rs) h = ap₂ (λ a b. begun_turn a b) (stays_at us vs i h.0) (row_keeps us vs rs h.1)
+
+visits_keep : (us vs : List Account) (ws : List Visit) (m : ℕ) → AreSmallerVisits (length us) ws → visits_at (us ++ vs) ws m ≡ visits_at us ws m
+visits_keep us vs [] m h = refl
+visits_keep us vs (w ∷ ws) m h = ap₂ (λ a b. visit w.node a b) (stays_at us vs w.account h.0) (visits_keep us vs ws m h.1)
+
 node_keeps : (us vs : List Account) (n : Node) → IsOlder (length us) n → account_in (us ++ vs) n ≡ account_in us n
 node_keeps us vs node.Nothing h = refl
 node_keeps us vs (node.AtPlace p) h = refl
-node_keeps us vs (node.OfParts is) h = ap of_parts (accounts_keep us vs is.items h)
+node_keeps us vs (node.OfParts is) h = ap of_parts (accounts_keep us vs is h)
 node_keeps us vs (node.OfBranch i j) h = ap (of_branch i) (stays_at us vs j h)
+node_keeps us vs (node.OfRow rs) h = ap of_row (row_keeps us vs rs h)
+node_keeps us vs (node.OfWalk ws m) h = ap of_walk (visits_keep us vs ws m h)
 
 behind_keeps : (us : List Account) (ns : List Node) → (rest : List Account) × (accounts_behind us ns ≡ us ++ rest)
 behind_keeps us [] = ([], sym (append-nil us))
@@ -94,3 +108,8 @@ within ns i h = let c = counted ns in omega (arith, h, c)
 pub ruleset looking = (node_of, node_older, within, counted)
 
 pub ruleset adding = (pushed, counted, at_end, stays_at, stays_older)
+
+pub tested : (a c : Account) → a ≡ c → is_nothing a ≡ is_nothing c
+tested a c e = ap is_nothing e
+
+pub ruleset testing = (tested)

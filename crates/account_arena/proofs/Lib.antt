@@ -1,5 +1,3 @@
 pub mod Adding
-pub mod Fates
-pub mod PartClosing
-pub mod ClosedParts
-pub mod GivenParts
+pub mod Growing
+pub mod Cutting

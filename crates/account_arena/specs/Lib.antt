@@ -1,3 +1,3 @@
 pub mod AccountCodes
 pub mod Arenas
-pub mod ClosedParts
+pub mod Unstored

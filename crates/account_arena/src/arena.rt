@@ -1,10 +1,12 @@
 //! Accounts, each by a number: nodes that name nodes of smaller numbers.
 
 ghost use Rattle.std.specs.Prelude.{◌≡◌, ◌<◌, ◌++◌, ◌∷◌, [], List, length, IfOk, OnErr};
-ghost use Rattle.account_arena.specs.Arenas.{AreThere, account_at, accounts_at, account_in, Grows, IsOlder};
-ghost use Rattle.certificate_accounts.specs.Accounts.{Account, at_place, nothing, of_branch, of_parts};
+ghost use Rattle.account_arena.specs.Arenas.{AreThere, account_at, accounts_at, account_in, is_nothing, row_at, Grows, IsOlder, IsRowThere};
+ghost use Rattle.certificate_accounts.specs.Accounts.{Account, at_place, nothing, of_branch, of_parts, of_row};
 
+use crate::numbers::{Number, RowItem, Visit};
 use msc_base::NoMemory;
+use persistent_sequence::Sequence;
 use std::alloc::Global;
 use std::marker::Model;
 
@@ -16,9 +18,13 @@ pub enum Node {
     /// An event at this place of the log.
     AtPlace(u64),
     /// The parts of a join.
-    OfParts(Vec<u32>),
+    OfParts(Sequence<Number>),
     /// The part of a choice with this index, from 0, and its account.
     OfBranch(u64, u32),
+    /// The row of a loop.
+    OfRow(Sequence<RowItem>),
+    /// The nodes that a walk visits, and the one where it arrives.
+    OfWalk(Sequence<Visit>, u32),
 }
 
 /// How many nodes there may be.
@@ -76,6 +82,7 @@ impl Arena {
     #[tactic(auto, using(crate::proofs::Adding::adding))]
     pub fn add_place(&mut self, place: u64) -> Result<u32, NoMemory>
         ensures account { IfOk result (λ number. account_at self.new number ≡ at_place place) }
+        ensures number { IfOk result (λ number. number < length self.new) }
         ensures grows { Grows self.old self.new }
     {
         let number = self.add(Node::AtPlace(place))?;
@@ -87,6 +94,7 @@ impl Arena {
     pub fn add_branch(&mut self, index: u64, part: u32) -> Result<u32, NoMemory>
         requires { part < length self.old }
         ensures account { IfOk result (λ number. account_at self.new number ≡ of_branch index (account_at self.old part)) }
+        ensures number { IfOk result (λ number. number < length self.new) }
         ensures grows { Grows self.old self.new }
     {
         let number = self.add(Node::OfBranch(index, part))?;
@@ -95,13 +103,25 @@ impl Arena {
 
     /// Adds the account of a join, by those of its parts.
     #[tactic(auto, using(crate::proofs::Adding::adding))]
-    pub fn add_parts(&mut self, parts: Vec<u32>) -> Result<u32, NoMemory>
-        requires { AreThere self.old parts.items }
-        ensures account { IfOk result (λ number. account_at self.new number ≡ of_parts (accounts_at self.old parts.items)) }
+    pub fn add_parts(&mut self, parts: Sequence<Number>) -> Result<u32, NoMemory>
+        requires { AreThere self.old parts }
+        ensures account { IfOk result (λ number. account_at self.new number ≡ of_parts (accounts_at self.old parts)) }
         ensures number { IfOk result (λ number. number < length self.new) }
         ensures grows { Grows self.old self.new }
     {
         let number = self.add(Node::OfParts(parts))?;
+        Ok(number)
+    }
+
+    /// Adds the account of a loop, by that of its row.
+    #[tactic(auto, using(crate::proofs::Adding::adding))]
+    pub fn add_row(&mut self, row: Sequence<RowItem>) -> Result<u32, NoMemory>
+        requires { IsRowThere self.old row }
+        ensures account { IfOk result (λ number. account_at self.new number ≡ of_row (row_at self.old row)) }
+        ensures number { IfOk result (λ number. number < length self.new) }
+        ensures grows { Grows self.old self.new }
+    {
+        let number = self.add(Node::OfRow(row))?;
         Ok(number)
     }
 
@@ -124,5 +144,21 @@ impl Arena {
         ensures older { IsOlder number result.now }
     {
         &self.nodes[number as usize]
+    }
+
+    /// Whether it is the account without events.
+    #[tactic(auto, using(crate::proofs::Adding::testing))]
+    pub fn is_nothing(&self, number: u32) -> bool
+        requires { number < length self.now }
+        ensures { result ≡ is_nothing (account_at self.now number) }
+    {
+        match self.node(number) {
+            Node::Nothing => true,
+            Node::AtPlace(_) => false,
+            Node::OfParts(_) => false,
+            Node::OfBranch(_, _) => false,
+            Node::OfRow(_) => false,
+            Node::OfWalk(_, _) => false,
+        }
     }
 }

@@ -1,11 +1,13 @@
-//! Accounts by numbers: how code holds the accounts of the terms that a log leaves on its way, and goes back through a join.
+//! Accounts by numbers: how code holds the accounts of the terms that a log leaves on its way.
 //!
-//! An `Arena` gives each account a number. `parts_back` goes from the account of a join in normal form to those of the parts that
-//! it was made of, as certificate_accounts has it. `specs/` has what the numbers stand for.
+//! An `Arena` gives each account a number; an account holds the numbers of its parts in sequences that share what they have in common.
+//! `specs/` has what the numbers stand for.
 #![tactic(auto)]
 
 mod arena;
-mod closing;
-mod joins_back;
+mod numbers;
+mod parts;
 
 pub use arena::{Arena, Node};
+pub use numbers::{NoFacts, Number, RowItem, Visit};
+pub use parts::Cut;

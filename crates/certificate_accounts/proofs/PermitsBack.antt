@@ -3,7 +3,7 @@ use Rattle.std.specs.List.{list_any}
 use Rattle.std.specs.Option.{option_map}
 use Rattle.std.specs.Prelude.{ℕ, zero, suc, Bool, true, false, List, [], ◌∷◌, ◌≡◌, ◌⊎◌, ◌||◌, Option, Some, None, refl, cond}
 use Rattle.std.proofs.Common.{ap, sym, inl, inr}
-use Rattle.std.proofs.lemmas.Bool.{or_cases}
+use Rattle.std.proofs.lemmas.Bool.{and_parts, or_cases}
 use Rattle.std.proofs.lemmas.Option.{none-some}
 use Rattle.list_facts.proofs.Orders.{stands_either}
 use Rattle.msc_base.specs.Lists.{IsIn}
@@ -11,6 +11,7 @@ use Rattle.msc_base.specs.Orders.{Among, first, later}
 use Rattle.msc_base.specs.Patterns.{Mode, seq, empty, one, join, bind}
 use Rattle.hmsc_graph.specs.Graphs.{Spot, At, Goal, To, End, Any, reach}
 use Rattle.chart_term.specs.Equality.{same_tree}
+use Rattle.chart_term.specs.Facts.{misses}
 use Rattle.chart_term.specs.NormalForms.{NetPermits, only, cut, join_all, and_then, or_skip, unless, choice_form, unless_same, without, distinct, open_choice, open_choices, tie_of, bound_form, kept_pairs, numbers, turns_in, loop_of, walk_form, walk_of, allowed, are_nil}
 use Rattle.chart_term.specs.Spreads.{touch}
 use Rattle.chart_term.specs.Tables.{nth_tree}
@@ -29,10 +30,10 @@ use Rattle.term_laws.specs.Taking.{HasGap}
 use Rattle.term_laws.proofs.Permitting.{IsRegular, AreRegular, IsRegularRow, IsFree, Fits, FitsAll, FitsRow, permit_law, only_fits, touched}
 use Rattle.certificates.specs.Certificates.{HasEmpty}
 use Rattle.certificates.proofs.Places.{some_same}
-use Rattle.certificate_accounts.specs.Accounts.{Account, nothing, of_parts, of_branch, of_row, Accounts, no_accounts, account_and, RowAccount, Visits, placed_event, Tells, tells_nothing, tells_event, tells_parts, tells_branch, tells_tie, tells_row, tells_walk, TellsAll, tells_none, tells_part, TellsOne, tells_this, tells_that, TellsRow, tells_over, tells_turn, tells_shut, tells_more, TellsWalk, tells_arrived, tells_visit}
+use Rattle.certificate_accounts.specs.Accounts.{Account, nothing, at_place, of_parts, of_branch, of_row, of_walk, Accounts, no_accounts, account_and, RowAccount, Visits, placed_event, Tells, tells_nothing, tells_event, tells_parts, tells_branch, tells_tie, tells_row, tells_walk, TellsAll, tells_none, tells_part, TellsOne, tells_this, tells_that, TellsRow, tells_over, tells_turn, tells_shut, tells_more, TellsWalk, tells_arrived, tells_visit}
 use Rattle.certificate_accounts.specs.JoinsBack.{first_of, rest_of, parts_back}
 use Rattle.certificate_accounts.specs.RowsBack.{loop_back, put_gap, put_begun}
-use Rattle.certificate_accounts.specs.PermitsBack.{parts_some, row_some, opens_to, index_in, reopened, reopened_some, later_branch, first_or_later, branch_in, choice_back, permit_back, all_back, some_back, gaps_back}
+use Rattle.certificate_accounts.specs.PermitsBack.{join_some, loop_some, is_itself, stays, unless_stays, opens_to, index_in, reopened, reopened_some, later_branch, first_or_later, branch_in, choice_back, permit_back, all_back, some_back, gaps_back}
 use Rattle.certificates.proofs.Padding.{none_is_empty}
 use Rattle.certificate_accounts.proofs.Telling.{named, avoids_named, told, eased}
 use Rattle.certificate_accounts.proofs.JoinsBack.{parts_back_tells}
@@ -120,7 +121,7 @@ module _ (k : NetPermits) (node : ℕ → ℕ → Tree) (ev : ℕ → TermEvent)
       at_none us s tells_none = (empty, tells_none, tt, same)
 
   join_back : (m : Mode) (b : Block) (xs : Trees) (g : Accounts → Accounts) (p : Option (List Tree)) → ((ys : List Tree) → p ≡ Some ys → AllBack m (items xs) g b ys) → (y : Tree) → option_map (join_all m) p ≡ Some y
-      → Back (Join m xs) (λ a. of_parts (g (parts_some m p a))) b y
+      → Back (Join m xs) (λ a. join_some m p a g) b y
   join_back m b xs g None f y e a s h = absurd (none-some y e)
   join_back m b xs g (Some ys) f y e a s h =
       let i = parts_back_tells w ev m ys a s (rw (← some_same (join_all m ys) y e) at h) in
@@ -326,7 +327,7 @@ module _ (k : NetPermits) (node : ℕ → ℕ → Tree) (ev : ℕ → TermEvent)
 
   row_back_told : (b : Block) (x : Tree) → IsRegular k node false x → (lo : ℕ) (hi : Option ℕ) → UpTo hi lo → (r : Row) (g : RowAccount → RowAccount) (p : Option (List Part))
       → ((qs : List Part) → p ≡ Some qs → RowsBack x (parts r) g b qs) → ((qs : List Part) → p ≡ Some qs → HasGap qs → HasGap (parts r))
-      → (y : Tree) → turns_in (operand_left x) (touch k.spread x) x lo hi p ≡ Some y → Back (Loop x lo hi r) (λ a. of_row (g (row_some (operand_left x) (touch k.spread x) hi p a))) b y
+      → (y : Tree) → turns_in (operand_left x) (touch k.spread x) x lo hi p ≡ Some y → Back (Loop x lo hi r) (λ a. loop_some (operand_left x) (touch k.spread x) hi p a g) b y
   row_back_told b x h lo hi u r g None f v y e a s i = absurd (none-some y e)
   row_back_told b x h lo hi u r g (Some ps) f v y e a s i =
       let c = loop_of_told x h lo hi ps y e a s i in
@@ -373,16 +374,48 @@ module _ (k : NetPermits) (node : ℕ → ℕ → Tree) (ev : ℕ → TermEvent)
       let i = walk_back_told (only []) n f t c fine (λ m l s a h. h) y (empty_left (only []) (Walk n f t c) y (permit_law k node false (Walk n f t c) fine (only []) (only_fits k node false [] (Walk n f t c))) e) e a s h in
       (i.0, i.1, i.3)
 
+  -- where permission leaves a term as it is
+  itself : (x y : Tree) (r : Option Tree) → r ≡ Some y → is_itself x r ≡ true → y ≡ x
+  itself x y None e h = cc
+  itself x y (Some z) e h = rw (← some_same z y e) (tree_is z x h)
+
+  left_avoids : (b : Block) (x y : Tree) → Leaves w false b x (permit k b x) → permit k b x ≡ Some y → y ≡ x → (a : Account) (s : Shape) → Tells w ev x a s → Avoids b s
+  left_avoids b x y l e i a s h =
+      let (t, p, f) = told w ev h in
+      let g = rw e at (l.sound) in
+      let j = g t (rw i p) in
+      (avoids_named ev b s).to ((avoids b f).to ((avoids b j.2).from j.1.1))
+
+  nothing_told : {y : Tree} {s : Shape} → Tells w ev y nothing s → HasEmpty w y × HasNoEvent s
+  nothing_told (tells_nothing h) = (h, tt)
+  nothing_told (tells_tie {q = q} h) = let (g, n) = nothing_told h in (record { pattern = bind g.pattern q; has = holds_tie g.has; none = g.none }, n)
+
+  unless_stays_told : (b : Block) (x y : Tree) (t : Bool) → (t ≡ true → y ≡ x) → Leaves w false b x (permit k b x) → permit k b x ≡ Some y → (f : Account → Account) → Back x f b y → Back x (λ a. unless_stays t a (f a)) b y
+  unless_stays_told b x y true i l e f p a s h = let g = moved y x (i refl) a s h in (s, g, left_avoids b x y l e (i refl) a s g, same)
+  unless_stays_told b x y false i l e f p nothing s h = let (g, n) = nothing_told h in (empty, tells_nothing (empty_left b x y l e g), tt, none_is_empty s n)
+  unless_stays_told b x y false i l e f p (at_place n) s h = p (at_place n) s h
+  unless_stays_told b x y false i l e f p (of_parts us) s h = p (of_parts us) s h
+  unless_stays_told b x y false i l e f p (of_branch n a) s h = p (of_branch n a) s h
+  unless_stays_told b x y false i l e f p (of_row r) s h = p (of_row r) s h
+  unless_stays_told b x y false i l e f p (of_walk v) s h = p (of_walk v) s h
+
+  staying_told : (b : Block) (x y : Tree) → IsRegular k node false x → Fits k node false b x → permit k b x ≡ Some y → (f : Account → Account) → Back x f b y → Back x (λ a. unless_stays (stays k b x) a (f a)) b y
+  staying_told b x y h g e f p =
+      unless_stays_told b x y (stays k b x) (λ t. itself x y (permit k b x) e (and_parts (misses (record { instances = b.instances; events = b.numbers }) x) (is_itself x (permit k b x)) t).1) (permit_law k node false x h b g) e f p
+
   mutual
     pub permit_told : (x : Tree) → IsRegular k node false x → (b : Block) → Fits k node false b x → (y : Tree) → permit k b x ≡ Some y → Back x (permit_back k b x) b y
     permit_told Nil h b g y e = nil_back b y e
     permit_told (Event f) h b g y e = event_back b f (hits b f) refl y e
-    permit_told (Join m xs) h b g y e = join_back m b xs (all_back k b xs) (permit_all k b xs) (λ ys i. all_told m xs h b g ys i) y e
+    permit_told (Join m xs) h b g y e = staying_told b (Join m xs) y h g e (λ a. join_some m (permit_all k b xs) a (all_back k b xs)) (join_back m b xs (all_back k b xs) (permit_all k b xs) (λ ys i. all_told m xs h b g ys i) y e)
     permit_told (Choice xs) h b g y e =
-        choice_told b xs (some_back k b xs) y (empty_left b (Choice xs) y (permit_law k node false (Choice xs) h b g) e) (distinct (open_choices (permit_some k b xs)))
-        (λ z i. some_told xs h b g z (in_distinct z (open_choices (permit_some k b xs)) i)) e
-    permit_told (Tied x q) h b g y e = tied_back b x q (permit_back k b x) (permit k b x) (λ j i z d. h.1 j i b z d) (λ z i. permit_told x h.0 b g z i) y e
-    permit_told (Loop x lo hi r) h b g y e = row_back_told b x h.0 lo hi h.2 r (gaps_back k b r) (permit_row k b r) (λ qs i. row_told x r h.1 b g.0 g.1 qs i) (gap_stays b r) y e
+        staying_told b (Choice xs) y h g e (λ a. choice_back (distinct (open_choices (permit_some k b xs))) a (some_back k b xs))
+        (choice_told b xs (some_back k b xs) y (empty_left b (Choice xs) y (permit_law k node false (Choice xs) h b g) e) (distinct (open_choices (permit_some k b xs)))
+        (λ z i. some_told xs h b g z (in_distinct z (open_choices (permit_some k b xs)) i)) e)
+    permit_told (Tied x q) h b g y e = staying_told b (Tied x q) y h g e (permit_back k b x) (tied_back b x q (permit_back k b x) (permit k b x) (λ j i z d. h.1 j i b z d) (λ z i. permit_told x h.0 b g z i) y e)
+    permit_told (Loop x lo hi r) h b g y e =
+        staying_told b (Loop x lo hi r) y h g e (λ a. loop_some (operand_left x) (touch k.spread x) hi (permit_row k b r) a (gaps_back k b r))
+        (row_back_told b x h.0 lo hi h.2 r (gaps_back k b r) (permit_row k b r) (λ qs i. row_told x r h.1 b g.0 g.1 qs i) (gap_stays b r) y e)
     permit_told (Walk n f t c) h b g y e = walk_back_told b n f t c h g y (empty_left b (Walk n f t c) y (permit_law k node false (Walk n f t c) h b g) e) e
 
     all_told : (m : Mode) (xs : Trees) → AreRegular k node false xs → (b : Block) → FitsAll k node false b xs → (ys : List Tree) → permit_all k b xs ≡ Some ys → AllBack m (items xs) (all_back k b xs) b ys

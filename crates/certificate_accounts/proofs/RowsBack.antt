@@ -1,7 +1,7 @@
 -- From an account of a loop in normal form to an account of the row that it was made of.
-use Rattle.std.specs.Prelude.{ℕ, zero, suc, ◌≤◌, Bool, true, false, List, [], ◌∷◌, ◌≡◌, ◌⊎◌, Option, Some, None, refl}
-use Rattle.std.proofs.Common.{arith, inl, inr}
-use Rattle.std.proofs.lemmas.Bool.{or_cases}
+use Rattle.std.specs.Prelude.{ℕ, zero, suc, ◌≤◌, ◌==◌, length, Bool, true, false, List, [], ◌∷◌, ◌≡◌, ◌⊎◌, Option, Some, None, refl}
+use Rattle.std.proofs.Common.{ap, arith, inl, inr}
+use Rattle.std.proofs.lemmas.Bool.{eq-eqb, or_cases}
 use Rattle.msc_base.specs.Patterns.{seq, empty, join}
 use Rattle.chart_term.specs.NormalForms.{only, cut, cut_gaps, put_turn, drop_nil, only_turns, at_zero, live_gap, live, is_nil, has_free, free_gap, drop_free, lower_of, thin_gap, thin, has_gap, begun, turns_form, loop_of, join_all}
 use Rattle.chart_term.specs.TermMeanings.{NetTerms, UpTo, HasPattern, holds_loop, HasRow, gaps_end, gaps_turn, gaps_shut, gaps_more, Leaves}
@@ -17,7 +17,7 @@ use Rattle.certificates.specs.Certificates.{HasEmpty}
 use Rattle.certificates.proofs.Places.{some_same}
 use Rattle.certificate_accounts.specs.Accounts.{Account, Accounts, RowAccount, Tells, tells_nothing, tells_row, TellsAll, tells_none, tells_part, TellsRow, tells_over, tells_turn, tells_shut, tells_more}
 use Rattle.certificate_accounts.specs.JoinsBack.{parts_back}
-use Rattle.certificate_accounts.specs.RowsBack.{Mark, kept, gone, done, row_back, over_mark, over_marks, all_kept, gaps_gone, zero_marks, live_mark, live_marks, free_mark, free_marks, thin_mark, thin_marks, turns_row, nothing_row, row_in, end_back, loop_back}
+use Rattle.certificate_accounts.specs.RowsBack.{Mark, kept, gone, done, row_back, over_mark, over_marks, all_kept, gaps_gone, zero_marks, live_mark, live_marks, free_mark, free_marks, thin_mark, thin_marks, turns_row, nothing_row, how_long, where_fitting, row_in, end_back, loop_back}
 use Rattle.certificate_accounts.proofs.JoinsBack.{parts_back_tells, nil_empty}
 
 module _ (w : NetTerms) (ev : ℕ → TermEvent) (x : Tree) where
@@ -169,8 +169,22 @@ module _ (w : NetTerms) (ev : ℕ → TermEvent) (x : Tree) where
     pub lower : (lo ≤ turns) ⊎ (HasGap ps × HasEmpty w x)
     pub same_as : s ≈ pattern
 
+  -- an account that tells a pattern of a row is as long as the row
+  told_long : (ps : List Part) (b : RowAccount) (n : ℕ) (s : Shape) → TellsRow w ev x ps b n s → how_long b ≡ length ps
+  told_long [] b n s tells_over = refl
+  told_long (Turn y ∷ ps) b n s (tells_turn h r) = ap suc (told_long ps _ n _ r)
+  told_long (Gap c ∷ ps) b n s (tells_shut r) = ap suc (told_long ps _ n s r)
+  told_long (Gap c ∷ ps) b (suc n) s (tells_more h av r) = told_long (Gap c ∷ ps) _ n _ r
+
+  told_fitting : (ps : List Part) (b : RowAccount) (n : ℕ) (s : Shape) → TellsRow w ev x ps b n s → TellsRow w ev x ps (where_fitting (how_long b == length ps) ps b) n s
+  told_fitting ps b n s r = go (how_long b == length ps) (eq-eqb (how_long b) (length ps) (told_long ps b n s r))
+    where
+      go : (t : Bool) → t ≡ true → TellsRow w ev x ps (where_fitting t ps b) n s
+      go true e = r
+      go false e = cc
+
   loop_end : (lo : ℕ) (hi : Option ℕ) (rs : List Part) (a : Account) (s : Shape) → Tells w ev (Loop x lo hi (row_of rs)) a s → TellsCounted lo hi rs (row_in rs a) s
-  loop_end lo hi rs a s (tells_row {b = b} n c r u l) = record { turns = n; pattern = s; tells = rw (parts-row_of rs) at r; upper = u; lower = rw (parts-row_of rs) at l; same_as = same }
+  loop_end lo hi rs a s (tells_row {b = b} n c r u l) = record { turns = n; pattern = s; tells = told_fitting rs b n s (rw (parts-row_of rs) at r); upper = u; lower = rw (parts-row_of rs) at l; same_as = same }
   loop_end lo hi rs a s (tells_nothing h) = go h.pattern h.has h.none
     where
       go : (u : Shape) → HasPattern w false (Loop x lo hi (row_of rs)) u → HasNoEvent u → TellsCounted lo hi rs (nothing_row rs) empty

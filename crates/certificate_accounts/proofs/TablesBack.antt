@@ -14,6 +14,7 @@ use Rattle.chart_term.specs.TermMeanings.{NetTerms}
 use Rattle.chart_term.specs.TermPatterns.{Shape, earlier, InPairs, before_in, put_if}
 use Rattle.chart_term.specs.TermRuns.{Runs, label_of}
 use Rattle.chart_term.specs.Terms.{TermEvent, Block, has, Tree, Tied, Part}
+use Rattle.term_laws.proofs.TidyKept.{earlier_pairs}
 use Rattle.term_laws.specs.Permission.{permit, permits_of, permit_nth}
 use Rattle.term_laws.specs.Soundness.{NetLacks, IsKnown, IsTidyOver, AreTidyTables}
 use Rattle.term_laws.specs.Taking.{IsAfter}
@@ -128,17 +129,6 @@ module _ (ev : ℕ → TermEvent) (e : NetEntry) (es : Tables) (tidy : AreTidyTa
 pub kept_told : (ev : ℕ → TermEvent) (es : Tables) → AreTidyTables es → (n m : ℕ) (c : List ℕ) (x : Tree) → (permits_of es).kept n m c ≡ Some x → Back (permits_of es) (node_of es) ev (node_of es n m) (kept_account es n m c) (only c) x
 kept_told ev [] h n m c x q = absurd (none-some x q)
 kept_told ev (e ∷ es) h n m c x q = by_net ev e es h.0 h.1 h.2 n m c x (n == net_count es) refl (λ l p. kept_told ev es h.0 n m c x p) q
-
-earlier_pairs : (q : List (ℕ × ℕ)) (n j : ℕ) → has (before_in q n) j ≡ true → InPairs j q
-earlier_pairs [] n j h = cc
-earlier_pairs (p ∷ q) n j h = go (n == p.1) h (earlier_pairs q n j)
-  where
-    first : (m : ℕ) (ns : List ℕ) → has (m ∷ ns) j ≡ true → (j ≡ m) ⊎ (has ns j ≡ true)
-    first m ns h = grind (arith, nat_tests)
-
-    go : (t : Bool) → has (put_if t p.0 (before_in q n)) j ≡ true → (has (before_in q n) j ≡ true → InPairs j q) → InPairs j (p ∷ q)
-    go true h f = elim (first p.0 (before_in q n) h) [ inl e ↦ inl (inl e) | inr i ↦ inr (f i) ]
-    go false h f = inr (f h)
 
 module _ (w : Tables) (ev : ℕ → TermEvent) (ways : ℕ → Spot → Goal → Visits) (tidy : AreTidyTables w) (finds : FindsWays w ev ways) where
   told_nodes : (place : ℕ) → AreNodesTold (permits_of w) (node_of w) ev (nodes_over w ways) place

@@ -5,7 +5,7 @@ use Rattle.chart_term.specs.Terms.{Tree, Nil, Event, Join, Choice, Tied, Loop, W
 use Rattle.msc_base.specs.Patterns.{Mode, seq, par}
 use Rattle.certificate_accounts.specs.Accounts.{Account, nothing, at_place, of_parts, of_branch, of_row, of_walk, Accounts, no_accounts, account_and}
 
--- the first account, and the others
+-- the first account, and the others; where there is none, it is one without events
 abbrev pub first_of : Accounts → Account
 first_of no_accounts = nothing
 first_of (account_and a us) = a
@@ -23,25 +23,20 @@ abbrev pub rest_for : List Tree → Accounts → Accounts
 rest_for [] us = us
 rest_for (x ∷ xs) us = rest_for xs (rest_of us)
 
--- no event in any of them
-abbrev pub all_nothing : List Tree → Accounts
-all_nothing [] = no_accounts
-all_nothing (x ∷ xs) = account_and nothing (all_nothing xs)
-
--- the accounts in the account of a join
-abbrev pub parts_in : List Tree → Account → Accounts
-parts_in xs nothing = all_nothing xs
-parts_in xs (at_place n) = all_nothing xs
-parts_in xs (of_parts us) = us
-parts_in xs (of_branch i a) = all_nothing xs
-parts_in xs (of_row b) = all_nothing xs
-parts_in xs (of_walk v) = all_nothing xs
+-- the accounts in the account of a join; where it has no event there is none
+abbrev pub parts_in : Account → Accounts
+parts_in nothing = no_accounts
+parts_in (at_place n) = no_accounts
+parts_in (of_parts us) = us
+parts_in (of_branch i a) = no_accounts
+parts_in (of_row b) = no_accounts
+parts_in (of_walk v) = no_accounts
 
 -- the parts from which a join was made that has this account: no part is Nil, one part is itself
 abbrev pub joined_parts : List Tree → Account → Accounts
 joined_parts [] a = no_accounts
 joined_parts (x ∷ []) a = account_and a no_accounts
-joined_parts (x ∷ y ∷ ys) a = parts_in (x ∷ y ∷ ys) a
+joined_parts (x ∷ y ∷ ys) a = parts_in a
 
 -- the account of a part that was opened
 abbrev pub closed_part : Mode → Tree → Accounts → Account

@@ -1,5 +1,5 @@
 -- From an account of a loop in normal form to an account of the row that it was made of.
-use Rattle.std.specs.Prelude.{ℕ, zero, suc, Bool, true, false, List, [], ◌∷◌, Option, Some, None}
+use Rattle.std.specs.Prelude.{ℕ, zero, suc, ◌==◌, Bool, true, false, List, [], ◌∷◌, length, Option, Some, None}
 use Rattle.chart_term.specs.NormalForms.{cut_gaps, drop_nil, at_zero, live, is_nil, drop_free, thin, has_gap, begun}
 use Rattle.chart_term.specs.Terms.{Tree, Nil, Event, Join, Choice, Tied, Loop, Walk, Part, Gap, Turn}
 use Rattle.msc_base.specs.Patterns.{seq}
@@ -99,13 +99,24 @@ nothing_row [] = row_over
 nothing_row (Gap c ∷ ps) = turns_in_gap no_accounts (nothing_row ps)
 nothing_row (Turn y ∷ ps) = begun_turn nothing (nothing_row ps)
 
+-- how many parts an account of a row is of
+abbrev pub how_long : RowAccount → ℕ
+how_long row_over = zero
+how_long (turns_in_gap us b) = suc (how_long b)
+how_long (begun_turn a b) = suc (how_long b)
+
+-- the account where it is as long as the row, else one without events
+abbrev pub where_fitting : Bool → List Part → RowAccount → RowAccount
+where_fitting true ps b = b
+where_fitting false ps b = nothing_row ps
+
 -- the row in the account of a loop
 abbrev pub row_in : List Part → Account → RowAccount
 row_in ps nothing = nothing_row ps
 row_in ps (at_place n) = nothing_row ps
 row_in ps (of_parts us) = nothing_row ps
 row_in ps (of_branch i a) = nothing_row ps
-row_in ps (of_row b) = b
+row_in ps (of_row b) = where_fitting (how_long b == length ps) ps b
 row_in ps (of_walk v) = nothing_row ps
 
 -- the account of the row of which a loop in normal form was made, that has this account

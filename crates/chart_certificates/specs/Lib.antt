@@ -1,0 +1,3 @@
+pub mod ChartCertificates
+pub mod Logging
+pub mod TermLaws
