@@ -1,5 +1,5 @@
 -- Back over a trail of sets: each term of a set comes from one of the set before it.
-use Rattle.std.specs.Prelude.{ℕ, suc, ◌≡◌, List, [], ◌∷◌, Some, drop, length, reverse, slice_get, refl}
+use Rattle.std.specs.Prelude.{ℕ, suc, ◌≡◌, List, [], ◌∷◌, Some, true, drop, length, reverse, slice_get, refl}
 use Rattle.std.proofs.Common.{ap, sym, ◌∙◌, subst, arith, inl, inr}
 use Rattle.std.proofs.lemmas.Option.{slice_get_within}
 use Rattle.chart_term.specs.Tables.{Tables}
@@ -8,7 +8,7 @@ use Rattle.list_facts.proofs.Reading.{drop_end, drop_suc, some_at}
 use Rattle.log_ways.proofs.Trailing.{label_at}
 use Rattle.log_ways.specs.LogWays.{AreLabelled, IsLogWay}
 use Rattle.log_ways.proofs.Stepped.{places_there, whole_way}
-use Rattle.log_ways.specs.Stepping.{AreKnown, AreThere, ComesFrom, IsBack, IsEnding, steps_at}
+use Rattle.log_ways.specs.Stepping.{AreKnown, AreThere, ComesFrom, IsBack, IsEnding, LeaveOnly, steps_at}
 use Rattle.log_ways.specs.Trails.{IsTrail}
 use Rattle.log_ways.specs.declared.log_way.Back.{Back}
 use Rattle.log_ways.specs.declared.terms.Found.{Found}
@@ -44,8 +44,14 @@ module _ (v : NetsValue) (sets : List (List Tree)) (x : Tree) (ns trail : List �
   pub back_known : AreKnown v.tables sets b.steps.known.items
   back_known = (back behind.0 behind.1).known
 
-  pub back_comes : ComesFrom v.tables n (set_at sets s) b.goal
-  back_comes = comes_from v sets x ns trail h labelled i n s behind.0 number set behind_next b.goal (back behind.0 behind.1).among
+  pub back_comes : ComesFrom v.tables n (set_at sets s) b.goal.term
+  back_comes = comes_from v sets x ns trail h labelled i n s behind.0 number set behind_next b.goal.term (back behind.0 behind.1).among
+
+  pub back_alone : b.goal.alone ≡ true → LeaveOnly v.tables n (set_at sets s) b.goal.term
+  back_alone e x j d l y t =
+      let (a, named) = label_at v.labels labelled.0 ns i n labelled.1 number in
+      let left = ((h.next i n s behind.0 number set behind_next n refl a named).exact y).from (record { term = x; held = j; left = record { event = d; labelled = named ∙ ap (λ (m : ℕ). Some m) (sym l); after = t } }) in
+      (back behind.0 behind.1).alone e y left
 
   pub back_on : (new : Back) → ((terms : List Tree) (numbers : List ℕ) → IsBack v.tables sets terms numbers b → IsBack v.tables sets (set_at sets s) (n ∷ numbers) new) → (t : ℕ) → slice_get trail i ≡ Some t → IsBack v.tables sets (set_at sets t) (drop i ns) new
   back_on new f t e =
@@ -66,7 +72,7 @@ module _ (v : NetsValue) (sets : List (List Tree)) (x : Tree) (ns trail : List �
   back_there = places_there v.tables sets (set_at sets first.0) ns b ps first_back places
 
   pub back_whole : IsLogWay v.tables x ns (steps_at b.steps.known.items ps)
-  back_whole = whole_way v.tables sets (set_at sets first.0) x ns b ps first_back (first_goal v sets x ns trail h first.0 first.1 b.goal first_back.among) places
+  back_whole = whole_way v.tables sets (set_at sets first.0) x ns b ps first_back (first_goal v sets x ns trail h first.0 first.1 b.goal.term first_back.among) places
 
 -- behind the last set
 pub back_begins : (v : NetsValue) (sets : List (List Tree)) (ns trail : List ℕ) (n : ℕ) → n ≡ length ns → (f : Found) (b : Back) → ((last : ℕ) → slice_get trail (length ns) ≡ Some last → IsEnding v.tables (set_at sets last) f)

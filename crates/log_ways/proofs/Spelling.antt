@@ -1,5 +1,5 @@
 -- The terms of a set that are held as words: each is the events whose bits its word has.
-use Rattle.std.specs.Prelude.{ℕ, ◌+◌, ◌/◌, ◌%◌, ◌==◌, ◌≤◌, ◌≡◌, ◌↔◌, IsTrue, ◌⊎◌, Bool, true, false, List, [], ◌∷◌, ◌++◌, Some, drop, length, map, slice_get, take, refl}
+use Rattle.std.specs.Prelude.{ℕ, ◌+◌, ◌/◌, ◌%◌, ◌==◌, ◌≤◌, ◌≡◌, ◌↔◌, IsTrue, ◌⊎◌, Bool, true, false, List, [], ◌∷◌, ◌++◌, Some, drop, length, map, min, slice_get, take, refl}
 use Rattle.std.proofs.Common.{ap, sym, ◌∙◌, subst, arith, append_assoc, append-nil, inl, inr}
 use Rattle.std.specs.declared.cmp.Ordering.{Ordering}
 use Rattle.std.specs.declared.cmp.Ordering.TheVariants.{Less, Equal, Greater}
@@ -7,10 +7,14 @@ use Rattle.chart_term.proofs.Turns.{begun-map}
 use Rattle.chart_term.specs.NormalForms.{begun, join_of}
 use Rattle.chart_term.specs.Order.{tree_cmp}
 use Rattle.chart_term.specs.OrderLaws.{tree_equal}
-use Rattle.chart_term.specs.Terms.{Tree, Part, Turn}
+use Rattle.chart_term.specs.Terms.{Tree, Part, Turn, weight}
 use Rattle.list_facts.proofs.Reading.{drop_get, drop_end}
 use Rattle.list_facts.proofs.Members.{take_among}
-use Rattle.log_ways.specs.Stepping.{AreSame}
+use Rattle.log_ways.specs.Stepping.{AreSame, IsAlone}
+use Rattle.msc_base.specs.Stored.{most_stored}
+use Rattle.term_laws.specs.Listing.{set_weight}
+use Rattle.term_step.proofs.Searching.{some_weight}
+use Rattle.term_successors.proofs.TermSets.{member_weight}
 use Rattle.msc_base.specs.Lists.{IsAmong}
 use Rattle.std.proofs.lemmas.Bool.{true≢false}
 use Rattle.std.proofs.lemmas.List.{take_all}
@@ -103,5 +107,24 @@ none_end_more w terms i x b at h e false_is y j m = elim (take_among terms i x y
 
 pub none_may_end : (v : NetsValue) (terms set : List Tree) (i : ℕ) → length terms ≤ i → ((y : Tree) → IsAmong (take i terms) y → MayEnd (terms_over v.tables) y → ⊥) → AreSame terms set → HasEnding v set → ⊥
 none_may_end v terms set i l h s e = h e.term (subst (λ (t : List Tree). IsAmong t e.term) (sym (take_all i terms l)) ((s e.term).from e.held)) e.ends
+
+-- a term that weighs as much as the whole
+weighs_some : (x : Tree) → 1 ≤ weight x
+weighs_some x = some_weight x
+
+rest_none : (xs : List Tree) (y : Tree) → set_weight xs ≡ 0 → IsAmong xs y → ⊥
+rest_none [] y e j = j
+rest_none (x ∷ xs) y e j = absurd (let l = weighs_some x in omega arith)
+
+pub whole_alone : (xs : List Tree) (x : Tree) → IsAmong xs x → set_weight xs ≡ weight x → IsAlone xs x
+whole_alone [] x i e y j = absurd j
+whole_alone (z ∷ zs) x (inl q) e y (inl r) = r ∙ sym q
+whole_alone (z ∷ zs) x (inl q) e y (inr j) = absurd (rest_none zs y (let w : weight x ≡ weight z = ap weight q in omega arith) j)
+whole_alone (z ∷ zs) x (inr i) e y j = absurd (let w = member_weight x zs i in let l = weighs_some z in omega arith)
+
+pub weighs_alone : (xs : List Tree) (x : Tree) (m n : ℕ) → IsAmong xs x → m ≡ set_weight xs → n ≡ min (weight x) most_stored → m ≡ n → IsAlone xs x
+weighs_alone xs x m n i e f g = whole_alone xs x i (let w = member_weight x xs i in omega arith)
+
+pub ruleset alone = (weighs_alone)
 
 pub ruleset spelling = (bits_start, spelled_all, same_terms, same_as)

@@ -1,15 +1,16 @@
 -- The steps back: each is made from one of the terms of a set, and those that are known stay so.
-use Rattle.std.specs.Prelude.{ℕ, zero, suc, ◌+◌, ◌<◌, ◌≡◌, List, [], ◌∷◌, ◌++◌, Option, Some, length, slice_get, take, reverse, map, refl}
+use Rattle.std.specs.Prelude.{ℕ, zero, suc, ◌+◌, ◌<◌, ◌≡◌, List, [], ◌∷◌, ◌++◌, Option, Some, length, slice_get, take, reverse, map, refl, true}
 use Rattle.std.proofs.Common.{ap, sym, ◌∙◌, subst, arith, inl, inr, append-nil, get_or}
 use Rattle.std.proofs.lemmas.Option.{slice_get_read}
 use Rattle.std.proofs.lemmas.List.{reverse-append, take_all}
 use Rattle.chart_term.specs.Tables.{Tables, terms_over}
 use Rattle.chart_term.specs.TermRuns.{label_of}
 use Rattle.chart_term.specs.Terms.{Tree}
+use Rattle.chart_term.specs.Views.{event_of}
 use Rattle.list_facts.proofs.Members.{among_snoc, at_among, take_among}
 use Rattle.list_facts.proofs.Reading.{get_behind, some_at}
 use Rattle.log_ways.specs.LogWays.{AreSteps, IsLogWay, events_of, last_term}
-use Rattle.log_ways.specs.Stepping.{AreKnown, AreSame, AreThere, ComesFrom, Gains, IsBack, IsEnding, IsKnown, IsMade, IsNoted, IsPlaced, IsStepTo, and_step, steps_at}
+use Rattle.log_ways.specs.Stepping.{AreKnown, AreSame, AreThere, ComesFrom, Gains, IsAlone, IsBack, LeavesOnly, IsEnding, IsKnown, IsMade, IsNoted, IsPlaced, IsStepTo, and_step, steps_at}
 use Rattle.log_ways.specs.declared.log_way.Back.{Back}
 use Rattle.log_ways.specs.declared.steps.Known.{Known}
 use Rattle.log_ways.specs.declared.steps.StepBack.{StepBack}
@@ -17,6 +18,7 @@ use Rattle.log_ways.specs.declared.terms.Found.{Found}
 use Rattle.msc_base.specs.Lists.{IsAmong}
 use Rattle.term_laws.specs.Taking.{MayEnd}
 use Rattle.term_sets.specs.Memories.{set_at}
+use Rattle.term_ways.specs.declared.way.Way.{Way}
 use Rattle.term_ways.specs.Ways.{IsWay, LeavesNever}
 
 -- ---- one step
@@ -42,6 +44,10 @@ made w from label set terms goal i x k at s h f l b a = record {
     is_way = subst (λ (y : Tree). IsWay w label y k.step.after k.step.way) (sym b) (subst (λ (y : Tree). IsWay w label x y k.step.way) (sym a) h);
   };
 }
+
+-- what is left first is the goal, where nothing else is left
+pub first_is_goal : (w : Tables) (label : ℕ) (x goal : Tree) (way : Way) → LeavesOnly w label x goal → (left : Tree) × IsWay w label x left way → IsWay w label x goal way
+first_is_goal w label x goal way h l = subst (λ (y : Tree). IsWay w label x y way) (h (event_of way.taken.event) l.1.labelled l.0 l.1.after.after) l.1
 
 -- ---- steps that are known
 
@@ -149,18 +155,19 @@ places_there w sets terms ns b ps h e = subst (AreThere b.steps.known.items) (sy
 
 -- ---- back from a term that may end
 
-pub back_start : (w : Tables) (sets : List (List Tree)) (terms : List Tree) (f : Found) (b : Back) → IsEnding w terms f → b.steps.known.items ≡ [] → b.places.items ≡ [] → b.goal ≡ f.term → IsBack w sets terms [] b
+pub back_start : (w : Tables) (sets : List (List Tree)) (terms : List Tree) (f : Found) (b : Back) → IsEnding w terms f → b.steps.known.items ≡ [] → b.places.items ≡ [] → b.goal ≡ f → IsBack w sets terms [] b
 back_start w sets terms f b h k p g = record {
   known = λ q j. absurd (subst (λ (l : List Known). IsAmong l q) k j);
   there = subst (λ (l : List ℕ). AreThere b.steps.known.items (reverse l)) (sym p) tt;
-  among = subst (IsAmong terms) (sym g) h.among;
-  steps = subst (λ (l : List ℕ). AreSteps w b.goal [] (steps_at b.steps.known.items (reverse l))) (sym p) tt;
-  ends = subst (λ (l : List ℕ). MayEnd (terms_over w) (last_term b.goal (steps_at b.steps.known.items (reverse l)))) (sym p) (subst (MayEnd (terms_over w)) (sym g) h.ends);
+  among = subst (λ (q : Found). IsAmong terms q.term) (sym g) h.among;
+  alone = subst (λ (q : Found). q.alone ≡ true → IsAlone terms q.term) (sym g) h.alone;
+  steps = subst (λ (l : List ℕ). AreSteps w b.goal.term [] (steps_at b.steps.known.items (reverse l))) (sym p) tt;
+  ends = subst (λ (l : List ℕ). MayEnd (terms_over w) (last_term b.goal.term (steps_at b.steps.known.items (reverse l)))) (sym p) (subst (λ (q : Found). MayEnd (terms_over w) q.term) (sym g) h.ends);
 }
 
 module _ (w : Tables) (sets : List (List Tree)) (terms from_terms : List Tree) (label : ℕ) (ns : List ℕ) (old new : Back) (place : ℕ) (k : Known) (h : IsBack w sets terms ns old)
-    (known : AreKnown w sets new.steps.known.items) (gains : Gains old.steps.known.items new.steps.known.items) (at : slice_get new.steps.known.items place ≡ Some k) (step : IsStepTo w label from_terms old.goal k.step)
-    (placed : reverse new.places.items ≡ place ∷ reverse old.places.items) (goal_is : new.goal ≡ k.step.before) where
+    (known : AreKnown w sets new.steps.known.items) (gains : Gains old.steps.known.items new.steps.known.items) (at : slice_get new.steps.known.items place ≡ Some k) (step : IsStepTo w label from_terms old.goal.term k.step)
+    (placed : reverse new.places.items ≡ place ∷ reverse old.places.items) (goal_is : new.goal.term ≡ k.step.before) (is_alone : new.goal.alone ≡ true → IsAlone from_terms new.goal.term) where
   abbrev done : List StepBack
   done = steps_at old.steps.known.items (reverse old.places.items)
 
@@ -175,12 +182,13 @@ module _ (w : Tables) (sets : List (List Tree)) (terms from_terms : List Tree) (
     known = known;
     there = subst (AreThere new.steps.known.items) (sym placed) (there_within new.steps.known.items place k at, subst (λ (l : List Known). AreThere l (reverse old.places.items)) (sym gains.1) (there_more old.steps.known.items gains.0 (reverse old.places.items) h.there));
     among = subst (IsAmong from_terms) (sym goal_is) step.among;
-    steps = subst (λ (l : List StepBack). AreSteps w new.goal (label ∷ ns) l) (sym all) (
+    alone = is_alone;
+    steps = subst (λ (l : List StepBack). AreSteps w new.goal.term (label ∷ ns) l) (sym all) (
       sym goal_is,
       subst (λ (y : Tree). IsWay w label y k.step.after k.step.way) (sym goal_is) step.is_way,
       subst (λ (y : Tree). AreSteps w y ns done) (sym step.after) h.steps,
     );
-    ends = subst (λ (l : List StepBack). MayEnd (terms_over w) (last_term new.goal l)) (sym all) (subst (λ (y : Tree). MayEnd (terms_over w) (last_term y done)) (sym step.after) h.ends);
+    ends = subst (λ (l : List StepBack). MayEnd (terms_over w) (last_term new.goal.term l)) (sym all) (subst (λ (y : Tree). MayEnd (terms_over w) (last_term y done)) (sym step.after) h.ends);
   }
 
 -- ---- the whole way
@@ -191,8 +199,8 @@ steps_labelled w x [] (s ∷ ss) h = absurd h
 steps_labelled w x (n ∷ ns) [] h = absurd h
 steps_labelled w x (n ∷ ns) (s ∷ ss) h = λ i. h.1.labelled i ∷ steps_labelled w s.after ns ss h.2 i
 
-pub whole_way : (w : Tables) (sets : List (List Tree)) (terms : List Tree) (x : Tree) (ns : List ℕ) (b : Back) (ps : List ℕ) → IsBack w sets terms ns b → b.goal ≡ x → ps ≡ reverse b.places.items → IsLogWay w x ns (steps_at b.steps.known.items ps)
+pub whole_way : (w : Tables) (sets : List (List Tree)) (terms : List Tree) (x : Tree) (ns : List ℕ) (b : Back) (ps : List ℕ) → IsBack w sets terms ns b → b.goal.term ≡ x → ps ≡ reverse b.places.items → IsLogWay w x ns (steps_at b.steps.known.items ps)
 whole_way w sets terms x ns b ps h g e =
     subst (λ (l : List ℕ). IsLogWay w x ns (steps_at b.steps.known.items l)) (sym e)
     (subst (λ (y : Tree). IsLogWay w y ns (steps_at b.steps.known.items (reverse b.places.items))) g
-    (record { steps_are = h.steps; ends = h.ends; labelled = steps_labelled w b.goal ns (steps_at b.steps.known.items (reverse b.places.items)) h.steps }))
+    (record { steps_are = h.steps; ends = h.ends; labelled = steps_labelled w b.goal.term ns (steps_at b.steps.known.items (reverse b.places.items)) h.steps }))

@@ -1,6 +1,6 @@
 -- Serves private contracts alone.
 -- One step back: from a term of a set to one of the set before it.
-use Rattle.std.specs.Prelude.{ℕ, ◌≡◌, ◌<◌, List, [], ◌∷◌, ◌++◌, Option, Some, None, length, slice_get, reverse}
+use Rattle.std.specs.Prelude.{ℕ, ◌≡◌, ◌<◌, List, [], ◌∷◌, ◌++◌, Option, Some, None, true, length, slice_get, reverse}
 use Rattle.chart_term.specs.Tables.{Tables, terms_over}
 use Rattle.chart_term.specs.TermPatterns.{Both}
 use Rattle.chart_term.specs.Terms.{TermEvent, Tree}
@@ -26,6 +26,18 @@ pub record ComesFrom (w : Tables) (number : ℕ) (terms : List Tree) (goal : Tre
   pub event : TermEvent
   pub labelled : event.label ≡ number
   pub after : IsAfter (permits_of w) term event goal
+
+-- events of the label leave nothing but the goal of the term
+abbrev pub LeavesOnly : Tables → ℕ → Tree → Tree → Type 0
+LeavesOnly w number x goal = (e : TermEvent) → e.label ≡ number → (y : Tree) → IsAfter (permits_of w) x e y → y ≡ goal
+
+-- so it is with each of the terms
+abbrev pub LeaveOnly : Tables → ℕ → List Tree → Tree → Type 0
+LeaveOnly w number terms goal = (x : Tree) → IsAmong terms x → LeavesOnly w number x goal
+
+-- there is no other term
+abbrev pub IsAlone : List Tree → Tree → Type 0
+IsAlone terms x = (y : Tree) → IsAmong terms y → y ≡ x
 
 -- the step leads from one of the terms to the goal
 pub record IsStepTo (w : Tables) (number : ℕ) (terms : List Tree) (goal : Tree) (s : StepBack) : Type 0 where
@@ -67,6 +79,7 @@ pub record IsPlaced (w : Tables) (number : ℕ) (terms : List Tree) (goal : Tree
 -- one of the terms that may end
 pub record IsEnding (w : Tables) (terms : List Tree) (f : Found) : Type 0 where
   pub among : IsAmong terms f.term
+  pub alone : f.alone ≡ true → IsAlone terms f.term
   pub ends : MayEnd (terms_over w) f.term
 
 -- a step that was made of these
@@ -88,6 +101,7 @@ pub record IsNoted (ks : List Known) (place from label : ℕ) (goal : Tree) : Ty
 pub record IsBack (w : Tables) (sets : List (List Tree)) (terms : List Tree) (numbers : List ℕ) (b : Back) : Type 0 where
   pub known : AreKnown w sets b.steps.known.items
   pub there : AreThere b.steps.known.items (reverse b.places.items)
-  pub among : IsAmong terms b.goal
-  pub steps : AreSteps w b.goal numbers (steps_at b.steps.known.items (reverse b.places.items))
-  pub ends : MayEnd (terms_over w) (last_term b.goal (steps_at b.steps.known.items (reverse b.places.items)))
+  pub among : IsAmong terms b.goal.term
+  pub alone : b.goal.alone ≡ true → IsAlone terms b.goal.term
+  pub steps : AreSteps w b.goal.term numbers (steps_at b.steps.known.items (reverse b.places.items))
+  pub ends : MayEnd (terms_over w) (last_term b.goal.term (steps_at b.steps.known.items (reverse b.places.items)))

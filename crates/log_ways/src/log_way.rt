@@ -1,12 +1,12 @@
 //! The way of a whole log: forward over its sets, and back from a term that may end.
 
-ghost use Rattle.std.specs.Prelude.{◌≡◌, ◌≤◌, ◌<◌, ◌+◌, ◌∷◌, [], ℕ, List, IfOk, IfSome, MatchOption, OnOk, Some, length, slice_get};
+ghost use Rattle.std.specs.Prelude.{◌≡◌, ◌≤◌, ◌<◌, ◌+◌, ◌∷◌, [], ℕ, List, IfOk, IfSome, MatchOption, OnOk, Some, true, length, slice_get};
 ghost use Rattle.chart_term.specs.Properties.{Each};
 ghost use Rattle.chart_term.specs.Tables.{Tables};
 ghost use Rattle.chart_term.specs.Terms.{Tree};
 ghost use Rattle.line_events.specs.declared.event.LineEvent.{LineEvent};
 ghost use Rattle.log_ways.specs.LogWays.{AreLabelled, DoesConform, IsLogWay};
-ghost use Rattle.log_ways.specs.Stepping.{AreKnown, ComesFrom, IsBack, IsEnding};
+ghost use Rattle.log_ways.specs.Stepping.{AreKnown, ComesFrom, IsBack, IsEnding, LeaveOnly};
 ghost use Rattle.log_ways.specs.Trails.{IsTrail};
 ghost use Rattle.msc_base.specs.declared.limits.TheConstants.Limits.{BUDGET_MOST};
 ghost use Rattle.term_laws.specs.Placing.{HaveOnePlace};
@@ -17,7 +17,7 @@ ghost use Rattle.trace_judge.specs.Sets.{IsSoundFor};
 
 use crate::history::{History, history_of};
 use crate::steps::{Known, StepBack, Steps};
-use crate::terms::{Found, first_ending};
+use crate::terms::{Found, first_ending, is_alone};
 use chart_term::Term;
 use msc_base::NoMemory;
 use std::alloc::Global;
@@ -77,9 +77,7 @@ pub(crate) struct Back {
     /// Their places, from the last event to the first.
     pub(crate) places: Vec<u32>,
     /// The term to which they lead back.
-    pub(crate) goal: Term,
-    /// Where it stands in the list of its set.
-    pub(crate) index: usize,
+    pub(crate) goal: Found,
 }
 
 impl Back {
@@ -87,12 +85,10 @@ impl Back {
     fn from(alloc: Global, found: Found) -> Back
         ensures { (w : Tables) (sets : List (List Tree)) (terms : List Tree) → IsEnding w terms found → IsBack w sets terms [] result }
     {
-        let Found { term, index } = found;
         Back {
             steps: Steps::new(alloc),
             places: Vec::new(alloc),
-            goal: term,
-            index,
+            goal: found,
         }
     }
 
@@ -110,18 +106,20 @@ impl Back {
         requires terms { Each (IsReady nets.now.tables) (set_at memory.now.sets from) }
         requires placed { Each (HaveOnePlace nets.now.tables) (set_at memory.now.sets from) }
         requires known { AreKnown nets.now.tables memory.now.sets self.old.steps.known.items }
-        requires comes { ComesFrom nets.now.tables label (set_at memory.now.sets from) self.old.goal }
+        requires comes { ComesFrom nets.now.tables label (set_at memory.now.sets from) self.old.goal.term }
+        requires alone { self.old.goal.alone ≡ true → LeaveOnly nets.now.tables label (set_at memory.now.sets from) self.old.goal.term }
         ensures { (terms : List Tree) (numbers : List ℕ) → IsBack nets.now.tables memory.now.sets terms numbers self.old
             → OnOk result (IsBack nets.now.tables memory.now.sets (set_at memory.now.sets from) (label ∷ numbers) self.new) }
     {
         let place = self
             .steps
-            .step_to(alloc, nets, memory, from, label, &self.goal, self.index)?;
+            .step_to(alloc, nets, memory, from, label, &self.goal)?;
         self.places.push(place)?;
         let known = &self.steps.known[place as usize];
-        let goal = known.step.before.copy(alloc)?;
-        self.index = known.index;
-        self.goal = goal;
+        let term = known.step.before.copy(alloc)?;
+        let index = known.index;
+        let alone = is_alone(memory.set(from), &term);
+        self.goal = Found { term, index, alone };
         Ok(())
     }
 }

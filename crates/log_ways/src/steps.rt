@@ -1,20 +1,21 @@
 //! The steps back from a term to one of the set before it, each made once: for `log_way`.
 
-ghost use Rattle.std.specs.Prelude.{◌≡◌, ◌<◌, ◌++◌, [], ◌∷◌, length, slice_get, Some, IfOk, IfSome, IsTrue, OnOk};
+ghost use Rattle.std.specs.Prelude.{◌≡◌, ◌<◌, ◌++◌, [], ◌∷◌, length, slice_get, Some, true, IfOk, IsTrue, MatchOption, OnOk};
 ghost use Rattle.chart_term.specs.Properties.{Each};
-ghost use Rattle.log_ways.specs.Stepping.{AreKnown, ComesFrom, Gains, IsMade, IsNoted, IsPlaced};
+ghost use Rattle.log_ways.specs.Stepping.{AreKnown, ComesFrom, Gains, IsMade, IsNoted, IsPlaced, LeaveOnly, LeavesOnly};
 ghost use Rattle.term_laws.specs.Placing.{HaveOnePlace};
 ghost use Rattle.term_permission.specs.Ready.{AreReadyTables, IsReady};
 ghost use Rattle.term_sets.specs.Memories.{set_at};
+ghost use Rattle.term_ways.specs.Ways.{IsWay, LeavesNever};
 
-use crate::terms::terms_of;
+use crate::terms::{Found, terms_of};
 use chart_term::Term;
 use msc_base::NoMemory;
 use std::alloc::Global;
 use std::collections::BTreeMap;
 use term_sets::{SetMemory, TermSet};
 use term_tables::Nets;
-use term_ways::{Way, way_to};
+use term_ways::{Way, first_way, way_to};
 
 /// One event of a log: the term before it, the way down to it, and the term that it left.
 #[derive(Drop)]
@@ -76,6 +77,31 @@ impl Known {
     }
 }
 
+/// The way by which an event whose label has this number leaves the goal of the term. Where such events leave nothing else of it, as
+/// `alone` says, the first that leaves something will do, and no terms are compared.
+fn way_of(
+    alloc: Global,
+    nets: &Nets,
+    term: &Term,
+    label: u32,
+    goal: &Term,
+    alone: bool,
+) -> Result<Option<Way>, NoMemory>
+    requires tables { AreReadyTables nets.now.tables }
+    requires term { IsReady nets.now.tables term.now }
+    requires placed { HaveOnePlace nets.now.tables term.now }
+    requires alone { alone ≡ true → LeavesOnly nets.now.tables label term.now goal.now }
+    ensures { IfOk result (λ found. MatchOption found (LeavesNever nets.now.tables label term.now goal.now)
+        (IsWay nets.now.tables label term.now goal.now)) }
+{
+    if alone {
+        let found = first_way(alloc, nets, term, label)?;
+        return Ok(found);
+    }
+    let found = way_to(alloc, nets, term, label, goal)?;
+    Ok(found)
+}
+
 /// The step from a term of the set by an event whose label has this number to the goal, from the first such term.
 fn made_step(
     alloc: Global,
@@ -83,21 +109,22 @@ fn made_step(
     set: &TermSet,
     from: u32,
     label: u32,
-    goal: &Term,
+    goal: &Found,
 ) -> Result<Known, NoMemory>
     requires tables { AreReadyTables nets.now.tables }
     requires terms { Each (IsReady nets.now.tables) set.now }
     requires placed { Each (HaveOnePlace nets.now.tables) set.now }
-    requires comes { ComesFrom nets.now.tables label set.now goal.now }
-    ensures { IfOk result (λ known. IsMade nets.now.tables from label set.now goal.now known) }
+    requires comes { ComesFrom nets.now.tables label set.now goal.now.term }
+    requires alone { goal.now.alone ≡ true → LeaveOnly nets.now.tables label set.now goal.now.term }
+    ensures { IfOk result (λ known. IsMade nets.now.tables from label set.now goal.now.term known) }
 {
     let terms = terms_of(alloc, set)?;
     for index in 0..terms.len() {
         let term = &terms[index];
-        let found = way_to(alloc, nets, term, label, goal)?;
+        let found = way_of(alloc, nets, term, label, &goal.term, goal.alone)?;
         if let Some(way) = found {
             let before = term.copy(alloc)?;
-            let after = goal.copy(alloc)?;
+            let after = goal.term.copy(alloc)?;
             let step = StepBack { before, way, after };
             return Ok(Known {
                 from,
@@ -145,7 +172,7 @@ impl Steps {
     }
 
     /// The place of a step from a term of the set of that number, by an event whose label has this number, to the goal; it is made where
-    /// none is known. `index` says where the goal stands in the list of its set, by which steps are found again.
+    /// none is known.
     pub(crate) fn step_to(
         &mut self,
         alloc: Global,
@@ -153,23 +180,27 @@ impl Steps {
         memory: &SetMemory,
         from: u32,
         label: u32,
-        goal: &Term,
-        index: usize,
+        goal: &Found,
     ) -> Result<u32, NoMemory>
         requires tables { AreReadyTables nets.now.tables }
         requires from { from < length memory.now.sets }
         requires terms { Each (IsReady nets.now.tables) (set_at memory.now.sets from) }
         requires placed { Each (HaveOnePlace nets.now.tables) (set_at memory.now.sets from) }
         requires known { AreKnown nets.now.tables memory.now.sets self.old.known.items }
-        requires comes { ComesFrom nets.now.tables label (set_at memory.now.sets from) goal.now }
+        requires comes { ComesFrom nets.now.tables label (set_at memory.now.sets from) goal.now.term }
+        requires alone { goal.now.alone ≡ true → LeaveOnly nets.now.tables label (set_at memory.now.sets from) goal.now.term }
         ensures known { OnOk result (AreKnown nets.now.tables memory.now.sets self.new.known.items) }
         ensures gains { OnOk result (Gains self.old.known.items self.new.known.items) }
-        ensures place { IfOk result (IsPlaced nets.now.tables label (set_at memory.now.sets from) goal.now self.new.known.items) }
+        ensures place { IfOk result (IsPlaced nets.now.tables label (set_at memory.now.sets from) goal.now.term self.new.known.items) }
     {
-        let key = StepKey { from, label, index };
+        let key = StepKey {
+            from,
+            label,
+            index: goal.index,
+        };
         let next = self.known.len().min(u32::MAX as usize) as u32;
         let place = noted_place(&mut self.places, key, next)?;
-        if self.is_at(place, from, label, goal) {
+        if self.is_at(place, from, label, &goal.term) {
             return Ok(place);
         }
         let made = made_step(alloc, nets, memory.set(from), from, label, goal)?;

@@ -1,10 +1,11 @@
 //! The terms of a set as a list, and the first of them that may end: for `steps` and `log_way`.
 
-ghost use Rattle.std.specs.Prelude.{◌≡◌, ◌++◌, [], IfOk, MatchOption, OnOk};
+ghost use Rattle.std.specs.Prelude.{◌≡◌, ◌++◌, [], IfOk, true, MatchOption, OnOk};
 ghost use Rattle.chart_term.specs.NormalForms.{begun};
 ghost use Rattle.chart_term.specs.PartLists.{AreTurns};
 ghost use Rattle.chart_term.specs.Properties.{Each};
-ghost use Rattle.log_ways.specs.Stepping.{AreSame, IsEnding};
+ghost use Rattle.log_ways.specs.Stepping.{AreSame, IsAlone, IsEnding};
+ghost use Rattle.msc_base.specs.Lists.{IsAmong};
 ghost use Rattle.term_permission.specs.Ready.{AreReadyTables, IsReady};
 ghost use Rattle.term_sets.specs.Subsets.{all_spelled, pick, side_by_side, spelled};
 ghost use Rattle.trace_judge.specs.Sets.{HasEnding};
@@ -90,6 +91,17 @@ pub(crate) struct Found {
     pub(crate) term: Term,
     /// Its index.
     pub(crate) index: usize,
+    /// Whether it is known to be the only one.
+    pub(crate) alone: bool,
+}
+
+/// Whether the term of the set is known to be the only one: it weighs as much as the whole.
+#[tactic(auto, using(crate::proofs::Spelling::alone))]
+pub(crate) fn is_alone(set: &TermSet, term: &Term) -> bool
+    requires { IsAmong set.now term.now }
+    ensures { result ≡ true → IsAlone set.now term.now }
+{
+    set.weight() == term.weight()
 }
 
 /// The first term of the set that may end, if there is one.
@@ -107,7 +119,8 @@ pub(crate) fn first_ending(
         let term = &terms[index];
         if may_end(alloc, nets, term)? {
             let term = term.copy(alloc)?;
-            return Ok(Some(Found { term, index }));
+            let alone = is_alone(set, &term);
+            return Ok(Some(Found { term, index, alone }));
         }
     }
     Ok(None)

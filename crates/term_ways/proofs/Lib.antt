@@ -1,2 +1,2 @@
-mod Derived
+pub mod Derived
 mod Searched

@@ -5,4 +5,4 @@ use Rattle.msc_base.specs.Lists.{IsAmong}
 use Rattle.term_ways.specs.Ways.{LeavesNever}
 
 abbrev pub invariant-loop-index : goal.invariant-loop-index
-invariant-loop-index l = (y : Tree) → IsAmong (take l.index l.terms.items) y → LeavesNever l.nets.tables l.label y l.goal
+invariant-loop-index l = (y : Tree) → IsAmong (take l.index l.terms.items) y → LeavesNever l.nets.tables l.label y l.goal.term
