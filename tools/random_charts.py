@@ -145,9 +145,14 @@ class Maker(Naming):
                 kind = "in" if held.kind == "out" else "out"
                 if broken == "gate ways differ" and rng.random() < 0.5:
                     kind = held.kind
-                text = "f" if broken == "gate ways differ" and rng.random() < 0.3 else held.text
+                text = self.other_text(held.text) if broken == "gate ways differ" and rng.random() < 0.5 else held.text
                 for _ in range(2 if broken == "gate used twice" and rng.random() < 0.5 else 1):
                     self.call(level, item, gate, Event(rng.choice(level.cover), kind, text, held.at))
+
+    def other_text(self, text):
+        """Another text: another name, or the name with other parameters."""
+        name, *parameters = text.split("(")
+        return self.rng.choice(["f" if name == "e" else "e", f"{name}(y)", f"{name}(x,x)", f"{name}()", name if parameters else f"{name}(x)"])
 
     def ties(self, level):
         """Joins gates of references with gates of others of the level that go the other way; where a rule is to be broken, also others."""

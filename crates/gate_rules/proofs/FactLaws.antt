@@ -1,9 +1,7 @@
 -- What rules ask of the inner events of a gate, by what is known of them.
 use Rattle.std.proofs.Common.{◌≡◌, ◌≤◌, ℕ, Bool, true, false, not, ◌||◌, ◌&&◌, nat_lt, List, [], ◌∷◌, length, Option, None, Some, option_map, refl, sym, ap, ap₂, ◌∙◌, arith}
 use Rattle.std.proofs.lemmas.List.{length-append}
-use Rattle.std.proofs.lemmas.Slice.Eq.{bytes_eq-Decides}
 use Rattle.std.specs.List.{list_any}
-use Rattle.std.specs.Str.{bytes_eq}
 use Rattle.std.specs.Option.{is_some}
 use Rattle.msc_base.specs.declared.label.Kind.{Kind}
 use Rattle.msc_base.specs.declared.label.Kind.TheVariants.{Output, Input, OutputLost, InputFound, Action, TimerStart, TimerStop, Timeout, Create}
@@ -14,6 +12,8 @@ use Rattle.list_facts.proofs.Joining.{left_nil, right_nil}
 use Rattle.gate_tables.specs.declared.facts.GateFacts.{GateFacts}
 use Rattle.gate_tables.specs.FactViews.{facts_view}
 use Rattle.gate_tables.specs.GateFacts.{Facts, all_inputs, all_outputs, facts_by, facts_of, has_other_text, is_among_events}
+use Rattle.gate_tables.specs.MessageTexts.{MessageText, is_same_text, text_parts}
+use Rattle.gate_tables.proofs.MessageLaws.{same_text}
 use Rattle.msc_meaning.specs.Bodies.{WovenItems}
 use Rattle.msc_meaning.specs.Tables.{Table}
 use Rattle.msc_tree.specs.declared.reference.JoinEnd.{JoinEnd}
@@ -77,16 +77,16 @@ looped_is a = by (listed a) refl
 -- ---- texts and ways
 
 -- another text than a given one
-pub other_text : (text : List ℕ) (e : InnerEvent) (es : List InnerEvent) → (not (bytes_eq e.node.event.text text) || has_other_text e.node.event.text (e ∷ es)) ≡ has_other_text text (e ∷ es)
-other_text text e es = by (bytes_eq e.node.event.text text) refl
+pub other_text : (text : MessageText) (e : InnerEvent) (es : List InnerEvent) → (not (is_same_text (text_parts e.node.event) text) || has_other_text (text_parts e.node.event) (e ∷ es)) ≡ has_other_text text (e ∷ es)
+other_text text e es = by (is_same_text (text_parts e.node.event) text) refl
   where
-    by : (b : Bool) → bytes_eq e.node.event.text text ≡ b → (not b || has_other_text e.node.event.text (e ∷ es)) ≡ (not b || has_other_text text es)
+    by : (b : Bool) → is_same_text (text_parts e.node.event) text ≡ b → (not b || has_other_text (text_parts e.node.event) (e ∷ es)) ≡ (not b || has_other_text text es)
     by true h =
-        let same : e.node.event.text ≡ text = (bytes_eq-Decides e.node.event.text text).0 h in
-        ap (λ (t : List ℕ). has_other_text t (e ∷ es)) same ∙ ap (λ (b : Bool). not b || has_other_text text es) h
+        let same : text_parts e.node.event ≡ text = same_text (text_parts e.node.event) text h in
+        ap (λ (t : MessageText). has_other_text t (e ∷ es)) same ∙ ap (λ (b : Bool). not b || has_other_text text es) h
     by false h = refl
 
-pub along_is : (n : EventNode) (a : GateEvents) → with_facts (along n.event.kind n.event.text) (Some (facts_of a)) ≡ goes_along n (listed a)
+pub along_is : (n : EventNode) (a : GateEvents) → with_facts (along n.event.kind (text_parts n.event)) (Some (facts_of a)) ≡ goes_along n (listed a)
 along_is n a = by (listed a)
   where
     answers : (k : Kind) (e : InnerEvent) (es : List InnerEvent) → with_facts (answering k) (Some (facts_by a (e ∷ es))) ≡ answer k (e ∷ es)
@@ -100,9 +100,9 @@ along_is n a = by (listed a)
     answers Timeout e es = refl
     answers Create e es = refl
 
-    by : (es : List InnerEvent) → with_facts (along n.event.kind n.event.text) (Some (facts_by a es)) ≡ goes_along n es
+    by : (es : List InnerEvent) → with_facts (along n.event.kind (text_parts n.event)) (Some (facts_by a es)) ≡ goes_along n es
     by [] = refl
-    by (e ∷ es) = ap₂ (λ (a b : Bool). not a || b) (answers n.event.kind e es) (other_text n.event.text e es)
+    by (e ∷ es) = ap₂ (λ (a b : Bool). not a || b) (answers n.event.kind e es) (other_text (text_parts n.event) e es)
 
 pub clash_is : (a b : GateEvents) → with_facts (λ f. with_facts (tied_ways f) (Some (facts_of b))) (Some (facts_of a)) ≡ clash (listed a) (listed b)
 clash_is a b = by (listed a) (listed b)
@@ -112,7 +112,7 @@ clash_is a b = by (listed a) (listed b)
     by [] (f ∷ fs) = refl
     by (e ∷ es) [] = refl
     by (e ∷ es) (f ∷ fs) =
-        ap (λ (x : Bool). not ((all_outputs (e ∷ es) && all_inputs (f ∷ fs)) || (all_inputs (e ∷ es) && all_outputs (f ∷ fs))) || (has_other_text e.node.event.text (e ∷ es) || x)) (other_text e.node.event.text f fs)
+        ap (λ (x : Bool). not ((all_outputs (e ∷ es) && all_inputs (f ∷ fs)) || (all_inputs (e ∷ es) && all_outputs (f ∷ fs))) || (has_other_text (text_parts e.node.event) (e ∷ es) || x)) (other_text (text_parts e.node.event) f fs)
 
 -- ---- the gates that a caller calls
 

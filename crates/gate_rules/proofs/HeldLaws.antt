@@ -27,6 +27,7 @@ use Rattle.gate_ends.specs.EndLaws.{EndsAreFound}
 use Rattle.gate_ends.specs.FoundEnds.{AreAll, GoesTo, GateEvents, chart_gates, expression_inner, inner_of, item_names, items_names, level_names, listed, looped, operands_names}
 use Rattle.gate_ends.specs.LevelGates.{items_in}
 use Rattle.gate_tables.specs.GateFacts.{all_inputs, all_outputs, has_other_text, is_among_events, is_input, is_output}
+use Rattle.gate_tables.specs.MessageTexts.{text_parts}
 use Rattle.gate_rules.specs.declared.faults.GateRule.{GateRule}
 use Rattle.gate_rules.specs.declared.faults.GateRule.TheVariants as rule
 use Rattle.gate_ends.specs.LevelGates.{event_tags}
@@ -122,7 +123,7 @@ answering_kind Create es h = absurd cc
 
 along_kind : (n : EventNode) (es : List InnerEvent) → goes_along n es ≡ false → HasKind es
 along_kind n [] h = record { kind = Input; each = λ e i. elim i [ ] }
-along_kind n (e ∷ es) h = answering_kind n.event.kind (e ∷ es) (not_false (answer n.event.kind (e ∷ es)) (or_parts (not (answer n.event.kind (e ∷ es))) (has_other_text n.event.text (e ∷ es)) h).0)
+along_kind n (e ∷ es) h = answering_kind n.event.kind (e ∷ es) (not_false (answer n.event.kind (e ∷ es)) (or_parts (not (answer n.event.kind (e ∷ es))) (has_other_text (text_parts n.event) (e ∷ es)) h).0)
 
 clash_kinds : (es fs : List InnerEvent) → not (is_among_events es) ≡ false → not (is_among_events fs) ≡ false → clash es fs ≡ false → HasKind es × HasKind fs
 clash_kinds [] fs h i k = absurd cc
@@ -130,7 +131,7 @@ clash_kinds (e ∷ es) [] h i k = absurd cc
 clash_kinds (e ∷ es) (f ∷ fs) h i k =
     let out_in : Bool = all_outputs (e ∷ es) && all_inputs (f ∷ fs) in
     let in_out : Bool = all_inputs (e ∷ es) && all_outputs (f ∷ fs) in
-    let opposed : (out_in || in_out) ≡ true = not_false (out_in || in_out) (or_parts (not (out_in || in_out)) (has_other_text e.node.event.text (e ∷ es) || has_other_text e.node.event.text (f ∷ fs)) k).0 in
+    let opposed : (out_in || in_out) ≡ true = not_false (out_in || in_out) (or_parts (not (out_in || in_out)) (has_other_text (text_parts e.node.event) (e ∷ es) || has_other_text (text_parts e.node.event) (f ∷ fs)) k).0 in
     elim (or_cases out_in in_out opposed) [
       | inl a ↦ let (x, y) = and_parts (all_outputs (e ∷ es)) (all_inputs (f ∷ fs)) a in (are_outputs (e ∷ es) x, are_inputs (f ∷ fs) y)
       | inr a ↦ let (x, y) = and_parts (all_inputs (e ∷ es)) (all_outputs (f ∷ fs)) a in (are_inputs (e ∷ es) x, are_outputs (f ∷ fs) y)

@@ -20,6 +20,7 @@ use Rattle.msc_meaning.specs.InnerEvents.{InnerEvent}
 use Rattle.msc_meaning.specs.Tables.{Table, ChartEntry, Woven, Basic, HighLevel}
 use Rattle.gate_ends.specs.FoundEnds.{GateEvents, listed, looped, most, chart_gates, expression_inner, inner_of}
 use Rattle.gate_tables.specs.GateFacts.{all_inputs, all_outputs, is_among_events, is_elsewhere, has_other_text}
+use Rattle.gate_tables.specs.MessageTexts.{text_parts}
 use Rattle.gate_rules.specs.declared.faults.GateRule.{GateRule}
 use Rattle.gate_rules.specs.declared.faults.GateRule.TheVariants as rule
 
@@ -138,14 +139,14 @@ answer Create es = false
 -- one doesn't go the other way than the caller, or has another text
 abbrev pub goes_along : EventNode → List InnerEvent → Bool
 goes_along n [] = false
-goes_along n (e ∷ es) = not (answer n.event.kind (e ∷ es)) || has_other_text n.event.text (e ∷ es)
+goes_along n (e ∷ es) = not (answer n.event.kind (e ∷ es)) || has_other_text (text_parts n.event) (e ∷ es)
 
 -- of two gates that a join ties the inner events of one don't all go out and those of the other in, or they have two texts
 abbrev pub clash : List InnerEvent → List InnerEvent → Bool
 clash [] fs = false
 clash (e ∷ es) [] = false
 clash (e ∷ es) (f ∷ fs) =
-    not ((all_outputs (e ∷ es) && all_inputs (f ∷ fs)) || (all_inputs (e ∷ es) && all_outputs (f ∷ fs))) || (has_other_text e.node.event.text (e ∷ es) || has_other_text e.node.event.text (f ∷ fs))
+    not ((all_outputs (e ∷ es) && all_inputs (f ∷ fs)) || (all_inputs (e ∷ es) && all_outputs (f ∷ fs))) || (has_other_text (text_parts e.node.event) (e ∷ es) || has_other_text (text_parts e.node.event) (f ∷ fs))
 
 -- the join of a reference without a name calls a gate
 abbrev pub joins_nameless : Option (List ℕ) → JoinEnd → Bool

@@ -1,13 +1,13 @@
 -- Serves private contracts alone.
 -- What is known of the gates that a caller calls: none where it calls none, and of a gate without inner event nothing.
-use Rattle.std.specs.Prelude.{ℕ, Bool, true, false, not, ◌&&◌, ◌||◌, List, Option, None, Some, option_map}
-use Rattle.std.specs.Str.{bytes_eq}
+use Rattle.std.specs.Prelude.{Bool, true, false, not, ◌&&◌, ◌||◌, Option, None, Some, option_map}
 use Rattle.msc_base.specs.declared.label.Kind.{Kind}
 use Rattle.msc_base.specs.declared.label.Kind.TheVariants.{Output, Input, OutputLost, InputFound, Action, TimerStart, TimerStop, Timeout, Create}
 use Rattle.msc_meaning.specs.Bodies.{WovenItems}
 use Rattle.msc_meaning.specs.Tables.{Table}
 use Rattle.gate_tables.specs.FactViews.{facts_view}
 use Rattle.gate_tables.specs.GateFacts.{Facts, facts_of}
+use Rattle.gate_tables.specs.MessageTexts.{MessageText, is_same_text, text_parts}
 use Rattle.gate_rules.specs.declared.known.Known.{Known}
 use Rattle.gate_rules.specs.declared.known.Known.TheVariants.{Uncalled, Empty, Events}
 use Rattle.gate_rules.specs.declared.known.Ends as code
@@ -55,8 +55,8 @@ abbrev pub some_end : (Option (Option Facts) → Bool) → Ends → Bool
 some_end test ends = test ends.own || test ends.far
 
 -- an inner event has another text
-abbrev pub has_other : Facts → List ℕ → Bool
-has_other f text = not (bytes_eq f.text text) || f.differ
+abbrev pub has_other : Facts → MessageText → Bool
+has_other f text = not (is_same_text f.text text) || f.differ
 
 -- all come in where an event of that kind goes out, and the other way round
 abbrev pub answering : Kind → Facts → Bool
@@ -71,7 +71,7 @@ answering Timeout f = false
 answering Create f = false
 
 -- one doesn't go the other way than events of that kind, or has another text
-abbrev pub along : Kind → List ℕ → Facts → Bool
+abbrev pub along : Kind → MessageText → Facts → Bool
 along kind text f = not (answering kind f) || has_other f text
 
 -- those of one gate all go out, and those of the other in
@@ -87,5 +87,5 @@ clashing ends = with_facts (λ f. with_facts (tied_ways f) ends.far) ends.own
 
 -- inner events of a gate that it calls go along with the caller
 abbrev pub ways_by : Caller → Ends → Bool
-ways_by (by_event n name gate) ends = with_facts (along n.event.kind n.event.text) ends.far
+ways_by (by_event n name gate) ends = with_facts (along n.event.kind (text_parts n.event)) ends.far
 ways_by (by_join part j) ends = clashing ends

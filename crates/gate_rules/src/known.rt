@@ -1,19 +1,19 @@
 //! What is known of the gates that a caller calls: for `judging`.
 
 ghost use Rattle.std.specs.Prelude.{◌≡◌, ◌&&◌, ◌||◌, not, option_map};
-ghost use Rattle.std.specs.Str.{bytes_eq};
 ghost use Rattle.gate_rules.specs.Callers.{caller_view, key_view};
 ghost use Rattle.gate_rules.specs.GateRules.{inner_at};
-ghost use Rattle.gate_rules.specs.KnownGates.{along, answering, clashing, ends_found, ends_view, known_view, lacks, opposed, some_end, tied_ways, with_facts};
+ghost use Rattle.gate_rules.specs.KnownGates.{along, answering, clashing, ends_found, ends_view, has_other, known_view, lacks, opposed, some_end, tied_ways, with_facts};
 ghost use Rattle.gate_tables.specs.FactViews.{facts_view};
 ghost use Rattle.gate_tables.specs.ChartGates.{AreFactsOf};
 ghost use Rattle.gate_tables.specs.GateFacts.{facts_of};
+ghost use Rattle.gate_tables.specs.MessageTexts.{message_view, text_parts};
 ghost use Rattle.msc_meaning.specs.Bodies.{WovenItems};
 ghost use Rattle.msc_meaning.specs.Tables.{Table};
 
 use crate::caller::{Caller, GateKey};
-use gate_tables::{GateFacts, LevelFacts};
-use msc_base::{Kind, Text};
+use gate_tables::{GateFacts, LevelFacts, MessageText};
+use msc_base::Kind;
 use msc_tree::RawEvent;
 
 /// What is known of a gate that a caller may call.
@@ -112,7 +112,7 @@ impl<'a> Known<'a> {
 
     /// Whether one of them doesn't go the other way than the event, or has another text.
     pub(crate) fn goes_along(self, event: &RawEvent) -> bool
-        ensures { result ≡ with_facts (along event.now.kind event.now.text) (known_view self.entry) }
+        ensures { result ≡ with_facts (along event.now.kind (text_parts event.now)) (known_view self.entry) }
     {
         match self {
             Known::Uncalled => false,
@@ -140,17 +140,17 @@ fn answer(facts: &GateFacts, kind: Kind) -> bool
 }
 
 /// Whether an inner event has another text.
-fn has_other(facts: &GateFacts, text: &Text) -> bool
-    ensures { result ≡ (not (bytes_eq facts.now.text text.now) || facts.now.differ) }
+fn has_other(facts: &GateFacts, text: MessageText<'_>) -> bool
+    ensures { result ≡ has_other (facts_view facts.now) (message_view text.entry) }
 {
-    !facts.text.same(text) || facts.differ
+    !facts.message().same(text) || facts.differ
 }
 
 /// Whether an inner event doesn't go the other way than the event, or has another text.
 fn goes_along(facts: &GateFacts, event: &RawEvent) -> bool
-    ensures { result ≡ along event.now.kind event.now.text (facts_view facts.now) }
+    ensures { result ≡ along event.now.kind (text_parts event.now) (facts_view facts.now) }
 {
-    !answer(facts, event.kind) || has_other(facts, &event.text)
+    !answer(facts, event.kind) || has_other(facts, MessageText::of(event))
 }
 
 /// Whether the inner events of one gate all go out, and those of the other in.
@@ -164,7 +164,7 @@ fn are_opposed(own: &GateFacts, far: &GateFacts) -> bool
 fn clash(own: &GateFacts, far: &GateFacts) -> bool
     ensures { result ≡ tied_ways (facts_view own.now) (facts_view far.now) }
 {
-    !are_opposed(own, far) || own.differ || has_other(far, &own.text)
+    !are_opposed(own, far) || own.differ || has_other(far, own.message())
 }
 
 impl<'a> Ends<'a> {

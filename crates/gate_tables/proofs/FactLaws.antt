@@ -13,6 +13,8 @@ use Rattle.gate_ends.specs.FoundEnds.{GateEvents, no_event, an_event, both, eith
 use Rattle.gate_ends.proofs.FoundEnds.{listed_seen}
 use Rattle.gate_tables.specs.GateFacts.{Facts, all_inputs, all_outputs, facts_by, facts_of, has_other_text, is_among_events, is_elsewhere, is_input, is_output, most_counted}
 use Rattle.gate_tables.specs.Together.{event_facts, facts_if, facts_unless, in_loop_facts, together}
+use Rattle.gate_tables.specs.MessageTexts.{is_same_text, text_parts}
+use Rattle.gate_tables.proofs.MessageLaws.{same_text, text_itself}
 use Rattle.gate_tables.proofs.MapSteps.{itself}
 
 -- ---- parts without events, and with some
@@ -63,10 +65,10 @@ facts_from [] l s = None
 facts_from (e ∷ es) l s = Some (record {
   at = e.node.at;
   kind = e.node.event.kind;
-  text = e.node.event.text;
+  text = text_parts e.node.event;
   inputs = all_inputs (e ∷ es);
   outputs = all_outputs (e ∷ es);
-  differ = has_other_text e.node.event.text (e ∷ es);
+  differ = has_other_text (text_parts e.node.event) (e ∷ es);
   apart = is_elsewhere e.node.at (e ∷ es);
   looped = l;
   several = s;
@@ -91,19 +93,20 @@ any_append p [] b = refl
 any_append p (e ∷ a) b = ap (λ (q : Bool). p e || q) (any_append p a b) ∙ sym (or_assoc (p e) (list_any p a) (list_any p b))
 
 -- what differs from others differs from the first of its own, or that one differs
-other_by_first : (q : InnerEvent → List ℕ) (t : List ℕ) (f : InnerEvent) (fs : List InnerEvent) → list_any (λ (e : InnerEvent). not (bytes_eq (q e) t)) (f ∷ fs) ≡ (list_any (λ (e : InnerEvent). not (bytes_eq (q e) (q f))) (f ∷ fs) || not (bytes_eq (q f) t))
-other_by_first q t f fs = by (bytes_eq (q f) t) refl
-  where
-    by : (b : Bool) → bytes_eq (q f) t ≡ b → list_any (λ (e : InnerEvent). not (bytes_eq (q e) t)) (f ∷ fs) ≡ (list_any (λ (e : InnerEvent). not (bytes_eq (q e) (q f))) (f ∷ fs) || not b)
-    by true e = ap (λ (u : List ℕ). list_any (λ (d : InnerEvent). not (bytes_eq (q d) u)) (f ∷ fs)) (sym ((bytes_eq-Decides (q f) t).0 e)) ∙ sym (or_false (list_any (λ (d : InnerEvent). not (bytes_eq (q d) (q f))) (f ∷ fs)))
-    by false e = ap (λ (b : Bool). not b || list_any (λ (d : InnerEvent). not (bytes_eq (q d) t)) fs) e ∙ sym (or_true (list_any (λ (d : InnerEvent). not (bytes_eq (q d) (q f))) (f ∷ fs)))
+module _ {K : Type 0} (same : K → K → Bool) (sound : (a b : K) → same a b ≡ true → a ≡ b) where
+  other_by_first : (q : InnerEvent → K) (t : K) (f : InnerEvent) (fs : List InnerEvent) → list_any (λ (e : InnerEvent). not (same (q e) t)) (f ∷ fs) ≡ (list_any (λ (e : InnerEvent). not (same (q e) (q f))) (f ∷ fs) || not (same (q f) t))
+  other_by_first q t f fs = by (same (q f) t) refl
+    where
+      by : (b : Bool) → same (q f) t ≡ b → list_any (λ (e : InnerEvent). not (same (q e) t)) (f ∷ fs) ≡ (list_any (λ (e : InnerEvent). not (same (q e) (q f))) (f ∷ fs) || not b)
+      by true e = ap (λ (u : K). list_any (λ (d : InnerEvent). not (same (q d) u)) (f ∷ fs)) (sym (sound (q f) t e)) ∙ sym (or_false (list_any (λ (d : InnerEvent). not (same (q d) (q f))) (f ∷ fs)))
+      by false e = ap (λ (b : Bool). not b || list_any (λ (d : InnerEvent). not (same (q d) t)) fs) e ∙ sym (or_true (list_any (λ (d : InnerEvent). not (same (q d) (q f))) (f ∷ fs)))
 
-other_append : (q : InnerEvent → List ℕ) (t : List ℕ) (a : List InnerEvent) (f : InnerEvent) (fs : List InnerEvent)
-    → list_any (λ (e : InnerEvent). not (bytes_eq (q e) t)) (a ++ f ∷ fs) ≡ (list_any (λ (e : InnerEvent). not (bytes_eq (q e) t)) a || list_any (λ (e : InnerEvent). not (bytes_eq (q e) (q f))) (f ∷ fs) || not (bytes_eq (q f) t))
-other_append q t a f fs =
-    let here = list_any (λ (e : InnerEvent). not (bytes_eq (q e) t)) a in
-    any_append (λ (e : InnerEvent). not (bytes_eq (q e) t)) a (f ∷ fs) ∙ ap (λ (b : Bool). here || b) (other_by_first q t f fs)
-    ∙ sym (or_assoc here (list_any (λ (e : InnerEvent). not (bytes_eq (q e) (q f))) (f ∷ fs)) (not (bytes_eq (q f) t)))
+  other_append : (q : InnerEvent → K) (t : K) (a : List InnerEvent) (f : InnerEvent) (fs : List InnerEvent)
+      → list_any (λ (e : InnerEvent). not (same (q e) t)) (a ++ f ∷ fs) ≡ (list_any (λ (e : InnerEvent). not (same (q e) t)) a || list_any (λ (e : InnerEvent). not (same (q e) (q f))) (f ∷ fs) || not (same (q f) t))
+  other_append q t a f fs =
+      let here = list_any (λ (e : InnerEvent). not (same (q e) t)) a in
+      any_append (λ (e : InnerEvent). not (same (q e) t)) a (f ∷ fs) ∙ ap (λ (b : Bool). here || b) (other_by_first q t f fs)
+      ∙ sym (or_assoc here (list_any (λ (e : InnerEvent). not (same (q e) (q f))) (f ∷ fs)) (not (same (q f) t)))
 
 nil_right : (a : List InnerEvent) → a ++ [] ≡ a
 nil_right [] = refl
@@ -118,7 +121,7 @@ count_append x y = ap (λ (n : ℕ). min n most_counted) (length-append x y) ∙
 
 abbrev fields : InnerEvent → Bool → Bool → Bool → Bool → Bool → Bool → ℕ → Facts
 fields e i o d a l s n =
-    record { at = e.node.at; kind = e.node.event.kind; text = e.node.event.text; inputs = i; outputs = o; differ = d; apart = a; looped = l; several = s; count = n }
+    record { at = e.node.at; kind = e.node.event.kind; text = text_parts e.node.event; inputs = i; outputs = o; differ = d; apart = a; looped = l; several = s; count = n }
 
 with_same : (e : InnerEvent) (l : Bool) {i j o p d f a b s t : Bool} {m n : ℕ} → i ≡ j → o ≡ p → d ≡ f → a ≡ b → s ≡ t → m ≡ n → Some (fields e i o d a l s m) ≡ Some (fields e j p f b l t n)
 with_same e l {i} {j} {o} {p} {d} {f} {a} {b} {s} {t} {m} {n} q1 q2 q3 q4 q5 q6 =
@@ -135,7 +138,8 @@ of_both b l m s t (e ∷ es) [] no_l no_m u none_x none_y some =
     ∙ ap (facts_from (e ∷ es) l) (none_y refl)
 of_both b l m s t (e ∷ es) (f ∷ fs) no_l no_m u none_x none_y some =
     with_same e (l || m) (all_append (λ (d : InnerEvent). is_input d.node.event.kind) (e ∷ es) (f ∷ fs)) (all_append (λ (d : InnerEvent). is_output d.node.event.kind) (e ∷ es) (f ∷ fs))
-    (other_append (λ (d : InnerEvent). d.node.event.text) e.node.event.text (e ∷ es) f fs) (other_append (λ (d : InnerEvent). d.node.at) e.node.at (e ∷ es) f fs) (some e f es fs refl refl)
+    (other_append is_same_text same_text (λ (d : InnerEvent). text_parts d.node.event) (text_parts e.node.event) (e ∷ es) f fs)
+    (other_append bytes_eq (λ (x y : List ℕ). (bytes_eq-Decides x y).0) (λ (d : InnerEvent). d.node.at) e.node.at (e ∷ es) f fs) (some e f es fs refl refl)
     (count_append (e ∷ es) (f ∷ fs))
 
 -- ---- several
@@ -186,7 +190,7 @@ not_other : (g : List ℕ) → (not (bytes_eq g g) || false) ≡ false
 not_other g = ap (λ (b : Bool). not b || false) (itself g)
 
 pub facts_event : (e : InnerEvent) → facts_of (an_event e) ≡ Some (event_facts e.node)
-facts_event e = with_same e false (and_true (is_input e.node.event.kind)) (and_true (is_output e.node.event.kind)) (not_other e.node.event.text) (not_other e.node.at) refl refl
+facts_event e = with_same e false (and_true (is_input e.node.event.kind)) (and_true (is_output e.node.event.kind)) (ap (λ (b : Bool). not b || false) (text_itself (text_parts e.node.event))) (not_other e.node.at) refl refl
 
 pub facts_these : (b : Bool) (a : GateEvents) → facts_of (these_if b a) ≡ facts_if b (facts_of a)
 facts_these true a = refl
@@ -229,7 +233,7 @@ unfolding facts_from
 from_mapped name [] l s = refl
 from_mapped name (e ∷ es) l s =
     with_same e l (all_mapped name (λ (n : EventNode). is_input n.event.kind) (e ∷ es)) (all_mapped name (λ (n : EventNode). is_output n.event.kind) (e ∷ es))
-    (any_mapped name (λ (n : EventNode). not (bytes_eq n.event.text e.node.event.text)) (e ∷ es)) (any_mapped name (λ (n : EventNode). not (bytes_eq n.at e.node.at)) (e ∷ es)) refl
+    (any_mapped name (λ (n : EventNode). not (is_same_text (text_parts n.event) (text_parts e.node.event))) (e ∷ es)) (any_mapped name (λ (n : EventNode). not (bytes_eq n.at e.node.at)) (e ∷ es)) refl
     (ap (λ (n : ℕ). min n most_counted) (length-map (e ∷ es) (in_chart name)))
 
 pub facts_seen : (name : List ℕ) (a : GateEvents) → facts_of (seen_in name a) ≡ facts_of a

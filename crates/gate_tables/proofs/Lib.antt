@@ -1,3 +1,4 @@
+pub mod MessageLaws
 mod KnownLaws
 mod MapSteps
 mod CalledEnds

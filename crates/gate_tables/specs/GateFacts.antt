@@ -6,6 +6,7 @@ use Rattle.msc_base.specs.declared.label.Kind.{Kind}
 use Rattle.msc_base.specs.declared.label.Kind.TheVariants.{Output, Input, OutputLost, InputFound, Action, TimerStart, TimerStop, Timeout, Create}
 use Rattle.msc_meaning.specs.InnerEvents.{InnerEvent}
 use Rattle.gate_ends.specs.FoundEnds.{GateEvents, listed, looped, most}
+use Rattle.gate_tables.specs.MessageTexts.{MessageText, is_same_text, text_parts}
 
 abbrev pub is_output : Kind → Bool
 is_output Output = true
@@ -41,7 +42,7 @@ most_counted = 2000001
 pub record Facts : Type 0 where
   pub at : List ℕ
   pub kind : Kind
-  pub text : List ℕ
+  pub text : MessageText
   -- all are inputs, or all outputs
   pub inputs : Bool
   pub outputs : Bool
@@ -61,8 +62,8 @@ all_inputs es = list_all (λ (e : InnerEvent). is_input e.node.event.kind) es
 abbrev pub all_outputs : List InnerEvent → Bool
 all_outputs es = list_all (λ (e : InnerEvent). is_output e.node.event.kind) es
 
-abbrev pub has_other_text : List ℕ → List InnerEvent → Bool
-has_other_text text es = list_any (λ (e : InnerEvent). not (bytes_eq e.node.event.text text)) es
+abbrev pub has_other_text : MessageText → List InnerEvent → Bool
+has_other_text text es = list_any (λ (e : InnerEvent). not (is_same_text (text_parts e.node.event) text)) es
 
 abbrev pub is_elsewhere : List ℕ → List InnerEvent → Bool
 is_elsewhere at es = list_any (λ (e : InnerEvent). not (bytes_eq e.node.at at)) es
@@ -72,10 +73,10 @@ facts_by a [] = None
 facts_by a (e ∷ es) = Some (record {
   at = e.node.at;
   kind = e.node.event.kind;
-  text = e.node.event.text;
+  text = text_parts e.node.event;
   inputs = all_inputs (e ∷ es);
   outputs = all_outputs (e ∷ es);
-  differ = has_other_text e.node.event.text (e ∷ es);
+  differ = has_other_text (text_parts e.node.event) (e ∷ es);
   apart = is_elsewhere e.node.at (e ∷ es);
   looped = is_among_events (looped a);
   several = nat_lt 1 (most a);

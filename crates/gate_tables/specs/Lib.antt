@@ -1,3 +1,4 @@
+pub mod MessageTexts
 pub mod GateFacts
 pub mod FactViews
 pub mod Together

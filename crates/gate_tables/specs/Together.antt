@@ -4,13 +4,14 @@ use Rattle.std.specs.Prelude.{◌+◌, min, Bool, true, false, not, ◌&&◌, �
 use Rattle.std.specs.Str.{bytes_eq}
 use Rattle.msc_meaning.specs.Bodies.{EventNode}
 use Rattle.gate_tables.specs.GateFacts.{Facts, is_input, is_output, most_counted}
+use Rattle.gate_tables.specs.MessageTexts.{is_same_text, text_parts}
 
 -- of an event by itself
 abbrev pub event_facts : EventNode → Facts
 event_facts n = record {
   at = n.at;
   kind = n.event.kind;
-  text = n.event.text;
+  text = text_parts n.event;
   inputs = is_input n.event.kind;
   outputs = is_output n.event.kind;
   differ = false;
@@ -28,7 +29,7 @@ joined_facts both x y = record {
   text = x.text;
   inputs = x.inputs && y.inputs;
   outputs = x.outputs && y.outputs;
-  differ = x.differ || y.differ || not (bytes_eq y.text x.text);
+  differ = x.differ || y.differ || not (is_same_text y.text x.text);
   apart = x.apart || y.apart || not (bytes_eq y.at x.at);
   looped = x.looped || y.looped;
   several = both || x.several || y.several;

@@ -4,11 +4,14 @@ ghost use Rattle.std.specs.Prelude.{◌≡◌, ◌+◌, ◌&&◌, ◌||◌, min,
 ghost use Rattle.std.specs.Str.{bytes_eq};
 ghost use Rattle.gate_tables.specs.FactViews.{facts_view, seen_view};
 ghost use Rattle.gate_tables.specs.GateFacts.{is_input, is_output, most_counted};
+ghost use Rattle.gate_tables.specs.MessageTexts.{message_view};
 ghost use Rattle.gate_tables.specs.Together.{event_facts, joined_facts, looped_facts};
 ghost use Rattle.msc_meaning.specs.Views.{node_view};
 
+use crate::messages::MessageText;
 use msc_base::{Kind, Limits, Name, NoMemory, Text};
 use msc_meaning::EventNode;
+use msc_tree::Parameters;
 use std::alloc::Global;
 
 /// How far inner events are counted: one more than the sum of all sizes may be.
@@ -23,8 +26,10 @@ pub struct GateFacts {
     pub at: Name,
     /// Its kind.
     pub kind: Kind,
-    /// Its text.
+    /// The name in its text.
     pub text: Text,
+    /// The list in parentheses behind the name, where there is one.
+    pub parameters: Parameters,
     /// All are inputs.
     pub inputs: bool,
     /// All are outputs.
@@ -46,7 +51,7 @@ pub struct GateFacts {
 pub struct SeenFacts<'a> {
     pub at: &'a Name,
     pub kind: Kind,
-    pub text: &'a Text,
+    pub text: MessageText<'a>,
     pub inputs: bool,
     pub outputs: bool,
     pub differ: bool,
@@ -57,6 +62,16 @@ pub struct SeenFacts<'a> {
 }
 
 impl GateFacts {
+    /// The text of the first. It takes no memory.
+    pub fn message(&self) -> MessageText<'_>
+        ensures { message_view result ≡ (facts_view self.now).text }
+    {
+        MessageText {
+            name: &self.text,
+            parameters: &self.parameters,
+        }
+    }
+
     /// The facts where they stand. It takes no memory.
     pub fn seen(&self) -> SeenFacts<'_>
         ensures { seen_view result ≡ facts_view self.now }
@@ -64,7 +79,7 @@ impl GateFacts {
         SeenFacts {
             at: &self.at,
             kind: self.kind,
-            text: &self.text,
+            text: self.message(),
             inputs: self.inputs,
             outputs: self.outputs,
             differ: self.differ,
@@ -134,7 +149,7 @@ impl<'a> SeenFacts<'a> {
         SeenFacts {
             at: &node.at,
             kind,
-            text: &node.event.text,
+            text: MessageText::of(&node.event),
             inputs: is_input(kind),
             outputs: is_output(kind),
             differ: false,
@@ -150,7 +165,7 @@ impl<'a> SeenFacts<'a> {
     pub fn with(self, others: SeenFacts<'a>, both: bool) -> SeenFacts<'a>
         ensures { seen_view result ≡ joined_facts both (seen_view self.entry) (seen_view others.entry) }
     {
-        let another_text = is_other(self.text.bytes(), others.text.bytes());
+        let another_text = !others.text.same(self.text);
         let elsewhere = is_other(self.at.bytes(), others.at.bytes());
         SeenFacts {
             at: self.at,
@@ -181,11 +196,13 @@ impl<'a> SeenFacts<'a> {
         ensures { IfOk result (λ facts. facts_view facts ≡ seen_view self.entry) }
     {
         let at = self.at.copy(alloc)?;
-        let text = self.text.copy(alloc)?;
+        let text = self.text.name.copy(alloc)?;
+        let parameters = self.text.parameters.copy(alloc)?;
         Ok(GateFacts {
             at,
             kind: self.kind,
             text,
+            parameters,
             inputs: self.inputs,
             outputs: self.outputs,
             differ: self.differ,

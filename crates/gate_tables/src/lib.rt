@@ -9,10 +9,12 @@ mod inner_facts;
 mod kept;
 mod level;
 mod levels;
+mod messages;
 mod named;
 mod tables;
 
 pub use facts::GateFacts;
 pub use inner_facts::{LevelFacts, expression_facts, level_facts};
 pub use level::{LevelGates, level_gates};
+pub use messages::MessageText;
 pub use tables::{GateTables, gate_tables};
