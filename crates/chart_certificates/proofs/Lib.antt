@@ -1,3 +1,4 @@
 pub mod Holding
 pub mod Logged
+pub mod RunsTold
 pub mod TermLaws

@@ -1,3 +1,4 @@
 pub mod ChartCertificates
 pub mod Logging
+pub mod RunsTold
 pub mod TermLaws

@@ -7,5 +7,6 @@ mod laws;
 mod log;
 mod run;
 
+pub use laws::certificates_tell_runs;
 pub use log::ChartLog;
 pub use run::ChartRun;
