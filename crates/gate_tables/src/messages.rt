@@ -9,7 +9,9 @@ use msc_tree::{Parameters, RawEvent};
 /// The text of a message: its name, and the list in parentheses behind it, where there is one.
 #[derive(Clone, Copy)]
 pub struct MessageText<'a> {
+    /// The name.
     pub name: &'a Text,
+    /// The list, or none.
     pub parameters: &'a Parameters,
 }
 
